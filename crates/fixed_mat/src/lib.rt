@@ -1,0 +1,27 @@
+//! Whole nano-units in fixed storage: rounding, and matrices and columns whose entries stay in the range of their type.
+#![tactic(auto)]
+
+mod cols;
+mod mat;
+mod reading;
+mod round;
+
+pub use cols::Cols;
+pub use mat::{Coef, Limit, Mat, OverLimit, Range, Raw};
+pub use reading::Reading;
+pub use round::{S, ceil_s, residue, rnd};
+
+/// The greatest magnitude of a coefficient of a plant, and of a gain, in nano-units.
+pub const COEF: u128 = 1_000_000_000_000;
+
+/// The greatest magnitude of a state, a column's entry or a centre, and of what a set reaches, in nano-units.
+pub const RANGE: u128 = 1_000_000_000_000_000_000;
+
+/// The greatest sum of the magnitudes of a kept row, and of its right side, in nano-units.
+pub const ROW: u128 = 10_000_000_000_000_000_000_000;
+
+/// The greatest magnitude of an unrounded product of inputs, in nano-units times nano-units.
+pub const RAW: u128 = 10_000_000_000_000_000_000_000_000_000;
+
+#[cfg(test)]
+mod tests;

@@ -1,0 +1,36 @@
+//! Rounding to nano-units.
+
+ghost use Rattle.std.specs.Prelude.{◌≡◌, ◌^◌, ◌*◌, ◌-ℤ◌, ◌*ℤ◌, ◌≤◌, pos, ◌≤ℤ◌, unsigned_abs};
+ghost use Rattle.set_rules.specs.Round.{rnd as rnd_of, residue as residue_of, ceil_s as ceil_of, IsLeastCover};
+
+/// Nano-units in one unit.
+pub const S: i128 = 1_000_000_000;
+
+/// The nearest whole number to `p / S`, halves upwards.
+pub fn rnd(p: i128) -> i128
+    requires { unsigned_abs p ≤ 10 ^ 37 }
+    ensures value { result ≡ rnd_of p }
+    ensures near { unsigned_abs (p -ℤ pos 1_000_000_000 *ℤ result) ≤ 500_000_000 }
+{
+    (p + 500_000_000).div_euclid(S)
+}
+
+/// How far `p` is from `S` times its rounding.
+pub fn residue(p: i128) -> i128
+    requires { unsigned_abs p ≤ 10 ^ 37 }
+    ensures value { result ≡ residue_of p }
+    ensures low { pos 0 ≤ℤ result }
+    ensures half { result ≤ℤ pos 500_000_000 }
+{
+    (p - S * rnd(p)).abs()
+}
+
+/// The least whole number of which `S` make `p` or more.
+pub fn ceil_s(p: i128) -> i128
+    requires low { pos 0 ≤ℤ p }
+    requires high { p ≤ℤ pos (10 ^ 37) }
+    ensures value { result ≡ ceil_of p }
+    ensures least { IsLeastCover p result }
+{
+    (p + 999_999_999).div_euclid(S)
+}

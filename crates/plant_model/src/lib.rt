@@ -1,0 +1,2 @@
+//! Plants and their telemetry: what a model is, what a sample is, and which trajectories obey both.
+#![tactic(auto)]
