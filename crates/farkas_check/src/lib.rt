@@ -1,0 +1,9 @@
+//! Certificates of exclusion.
+#![tactic(auto)]
+
+mod certificate;
+
+pub use certificate::{Cert, Multipliers};
+
+#[cfg(test)]
+mod tests;

@@ -1,0 +1,12 @@
+//! The lines of a report, as text.
+#![tactic(auto)]
+
+mod line;
+mod pieces;
+mod write;
+
+pub use line::RepLine;
+pub use write::write_line;
+
+#[cfg(test)]
+mod tests;

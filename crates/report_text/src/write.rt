@@ -1,0 +1,109 @@
+//! A line of a report as its text.
+ghost use Rattle.std.specs.Prelude.{◌≡◌, ℕ, ◌+◌, ◌≤◌, ◌++◌, true};
+ghost use Rattle.arrayvec.specs.ArrayVec.{array_vec_len};
+ghost use Rattle.farkas_check.specs.Certificate.{certificate_of};
+ghost use Rattle.report_text.specs.Line.{line_text, has_printable_ends, certificate_text, verdict_text};
+ghost use Rattle.report_text.specs.Seen.{line_of};
+
+use crate::RepLine;
+use crate::pieces::{
+    push_count, push_index, push_indices, push_interval, push_multipliers, push_text, push_word,
+};
+use dec_text::Line;
+use farkas_check::Cert;
+use isolate_core::Verdict;
+
+/// The text of a line, without its line feed.
+pub fn write_line(rep: &RepLine) -> Line
+    requires { has_printable_ends (line_of rep.now) ≡ true }
+    ensures text { result.items ≡ line_text (line_of rep.now) }
+    ensures short { array_vec_len result ≤ 192 }
+{
+    let mut line = Line::new();
+    match rep {
+        RepLine::Title => push_text(b"zonomon 1", &mut line),
+        RepLine::Model { index, name } => {
+            push_text(b"model", &mut line);
+            push_index(*index, &mut line);
+            push_word(name.as_bytes(), &mut line);
+        }
+        RepLine::Sample { k } => {
+            push_text(b"sample", &mut line);
+            push_count(*k, &mut line);
+        }
+        RepLine::Pred {
+            model,
+            output,
+            lo,
+            hi,
+        } => {
+            push_text(b"p", &mut line);
+            push_interval(*model, *output, *lo, *hi, &mut line);
+        }
+        RepLine::Exclude { model, cert } => {
+            push_text(b"x", &mut line);
+            push_index(*model, &mut line);
+            push_certificate(cert, &mut line);
+        }
+        RepLine::Hull {
+            model,
+            state,
+            lo,
+            hi,
+        } => {
+            push_text(b"h", &mut line);
+            push_interval(*model, *state, *lo, *hi, &mut line);
+        }
+        RepLine::Status { model, kept } => {
+            push_text(b"s", &mut line);
+            push_index(*model, &mut line);
+            push_text(if *kept { b" fits" } else { b" undecided" }, &mut line);
+        }
+        RepLine::Possible { models } => {
+            push_text(b"possible", &mut line);
+            push_indices(models, &mut line);
+        }
+        RepLine::Verdict(verdict) => {
+            push_text(b"verdict", &mut line);
+            push_verdict(*verdict, &mut line);
+        }
+        RepLine::End { samples } => {
+            push_text(b"end", &mut line);
+            push_count(*samples, &mut line);
+        }
+    }
+    line
+}
+
+fn push_certificate(cert: &Cert, line: &mut Line)
+    requires { array_vec_len line.old + 77 ≤ 256 }
+    ensures text { line.new.items ≡ line.old.items ++ certificate_text (certificate_of cert.now) }
+    ensures longer { array_vec_len line.new ≤ array_vec_len line.old + 77 }
+{
+    match cert {
+        Cert::Out(output) => {
+            push_text(b" out", line);
+            push_index(*output, line);
+        }
+        Cert::Rows(multipliers) => {
+            push_text(b" rows", line);
+            push_multipliers(multipliers, line);
+        }
+    }
+}
+
+fn push_verdict(verdict: Verdict, line: &mut Line)
+    requires { array_vec_len line.old + 20 ≤ 256 }
+    ensures text { line.new.items ≡ line.old.items ++ verdict_text verdict }
+    ensures longer { array_vec_len line.new ≤ array_vec_len line.old + 20 }
+{
+    match verdict {
+        Verdict::None => push_text(b" none", line),
+        Verdict::Isolated(model) => {
+            push_text(b" isolated", line);
+            push_index(model, line);
+        }
+        Verdict::Several => push_text(b" several", line),
+        Verdict::Fault => push_text(b" fault", line),
+    }
+}
