@@ -1,0 +1,39 @@
+-- What the lines of a report claim. The lines after `sample k`, up to the next such line, speak of sample k; `plant i` is model i.
+use Rattle.std.specs.Prelude.{◌≡◌, ℕ, ℤ, List, [], ◌∷◌, Option, Some, None, if◌then◌else◌}
+use Rattle.set_rules.specs.Columns.{at}
+use Rattle.set_rules.specs.Box.{IsBetween}
+use Rattle.plant_model.specs.Plant.{Plant, Sample, sample_at, reading_at, Trajectory, states_at, Obeys, Consistent}
+use Rattle.observer_step.specs.Predicted.{reading_misses}
+use Rattle.farkas_check.specs.Certificate.{Certificate, by_out}
+use Rattle.report_text.specs.Line.{Line, sample, pred, exclude, hull}
+
+-- the interval holds state x of every trajectory that obeys the plant up to sample k
+abbrev pub HoldsEvery : Plant → List Sample → ℕ → ℕ → ℤ × ℤ → Type 0
+HoldsEvery p samples k x ends = (t : Trajectory) → Obeys p samples k t → IsBetween ends (at (states_at t k) x) t.denominator
+
+-- each hull holds every trajectory of its model
+abbrev pub HullsHold : (ℕ → Plant) → List Sample → ℕ → List Line → Type 0
+HullsHold plant samples k [] = Unit
+HullsHold plant samples k (sample j ∷ lines) = HullsHold plant samples j lines
+HullsHold plant samples k (hull i x lo hi ∷ lines) = HoldsEvery (plant i) samples k x (lo, hi) × HullsHold plant samples k lines
+HullsHold plant samples k (line ∷ lines) = HullsHold plant samples k lines
+
+-- each model that is excluded has no trajectory
+abbrev pub ExclusionsHold : (ℕ → Plant) → List Sample → ℕ → List Line → Type 0
+ExclusionsHold plant samples k [] = Unit
+ExclusionsHold plant samples k (sample j ∷ lines) = ExclusionsHold plant samples j lines
+ExclusionsHold plant samples k (exclude i c ∷ lines) = (¬ Consistent (plant i) samples k) × ExclusionsHold plant samples k lines
+ExclusionsHold plant samples k (line ∷ lines) = ExclusionsHold plant samples k lines
+
+-- the first model and output whose reading misses its printed interval by more than its slack
+abbrev pub first_missed : Sample → Option (ℕ × ℕ) → ℕ → ℕ → ℤ × ℤ → Option (ℕ × ℕ)
+first_missed s (Some missed) i o ends = Some missed
+first_missed s None i o ends = if reading_misses ends (reading_at s o) then Some (i, o) else None
+
+-- after the intervals of a model of which a reading misses one, the line that excludes it by the least such output
+abbrev pub MissesTold : List Sample → ℕ → Option (ℕ × ℕ) → List Line → Type 0
+MissesTold samples k missed [] = Unit
+MissesTold samples k missed (pred i o lo hi ∷ lines) = MissesTold samples k (first_missed (sample_at samples k) missed i o (lo, hi)) lines
+MissesTold samples k (Some (i, o)) (line ∷ lines) = (line ≡ exclude i (by_out o)) × MissesTold samples k None lines
+MissesTold samples k None (sample j ∷ lines) = MissesTold samples j None lines
+MissesTold samples k None (line ∷ lines) = MissesTold samples k None lines

@@ -1,0 +1,36 @@
+-- How the program ends: its status, and what it puts to standard error.
+use Rattle.std.specs.Prelude.{ℕ, List, [], ◌∷◌, ◌++◌, codes, Option}
+use Rattle.std.specs.Io.KnownBytes.{Appends}
+use Rattle.outside_io.specs.Causes.{Rose}
+use Rattle.outside_io.specs.Sink.{AppendsFront}
+use Rattle.zonomon_run.specs.declared.ending.Ending.{Ending}
+use Rattle.zonomon_run.specs.declared.ending.Ending.TheVariants.{Usage, ReadModel, ReadTelemetry, Write, Memory, NotBuilt}
+
+abbrev pub status_of : Ending → ℕ
+status_of Usage = 1
+status_of ReadModel = 4
+status_of ReadTelemetry = 4
+status_of Write = 5
+status_of Memory = 6
+status_of NotBuilt = 8
+
+-- a text with its line feed
+abbrev pub ended : List ℕ → List ℕ
+ended text = text ++ 10 ∷ []
+
+abbrev pub usage_lines : List ℕ
+usage_lines = ended (codes "usage: zonomon run MODEL TELEMETRY") ++ ended (codes "       zonomon check MODEL TELEMETRY REPORT")
+    ++ ended (codes "       zonomon demo SEED SAMPLES") ++ ended (codes "       zonomon help")
+
+abbrev pub text_of : Ending → List ℕ
+text_of Usage = usage_lines
+text_of ReadModel = ended (codes "read fault: model")
+text_of ReadTelemetry = ended (codes "read fault: telemetry")
+text_of Write = ended (codes "write fault")
+text_of Memory = ended (codes "out of memory")
+text_of NotBuilt = ended (codes "not built")
+
+-- a sink got the text, or where it had a fault or wanted memory, a front of it
+pub record Tells (old new : Option (List ℕ)) (faults faults' wants wants' : ℕ) (text : List ℕ) : Type 0 where
+  pub front : AppendsFront old new text
+  pub whole : ¬ Rose faults faults' → ¬ Rose wants wants' → Appends old new text

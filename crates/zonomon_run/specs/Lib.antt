@@ -1,0 +1,9 @@
+pub mod Words
+pub mod Command
+pub mod Whole
+pub mod Form
+pub mod Read
+pub mod Telemetry
+pub mod Report
+pub mod Ending
+pub mod Runs

@@ -1,0 +1,36 @@
+-- The words of the command line.
+use Rattle.std.specs.Prelude.{ℕ, List, [], ◌∷◌, length, codes, map, string_bytes, String, Bool, ◌&&◌, nat_lt, nat_le, if◌then◌else◌}
+use Rattle.std.specs.Char.{is_ascii_digit}
+use Rattle.std.specs.List.{list_all}
+use Rattle.dec_text.specs.Decimal.{number}
+use Rattle.std.specs.Str.{bytes_eq}
+use Rattle.std.specs.declared.alloc.Global.{Global}
+
+-- what the words ask for
+pub data Asked : Type 0 where
+  monitor : List ℕ → List ℕ → Asked
+  later : Asked
+  faulty : Asked
+
+-- so many decimal digits at most, of a number between these
+abbrev pub is_number : ℕ → ℕ → ℕ → List ℕ → Bool
+is_number most low high text = nat_lt 0 (length text) && (nat_le (length text) most && (list_all is_ascii_digit text && (nat_le low (number text) && nat_le (number text) high)))
+
+abbrev pub is_seed : List ℕ → Bool
+is_seed text = is_number 10 0 4_294_967_295 text
+
+abbrev pub is_sample_count : List ℕ → Bool
+is_sample_count text = is_number 5 1 10_000 text
+
+abbrev pub two_words : List ℕ → List ℕ → List ℕ → Asked
+two_words verb a b = if bytes_eq verb (codes "run") then monitor a b else (if bytes_eq verb (codes "demo") && (is_seed a && is_sample_count b) then later else faulty)
+
+-- `run MODEL TELEMETRY` is served; `check MODEL TELEMETRY REPORT`, `demo SEED SAMPLES` and `help` are not yet
+abbrev pub asked_by : List (List ℕ) → Asked
+asked_by (verb ∷ []) = if bytes_eq verb (codes "help") then later else faulty
+asked_by (verb ∷ a ∷ b ∷ []) = two_words verb a b
+asked_by (verb ∷ a ∷ b ∷ c ∷ []) = if bytes_eq verb (codes "check") then later else faulty
+asked_by _ = faulty
+
+abbrev pub texts : List (String Global) → List (List ℕ)
+texts words = map string_bytes words
