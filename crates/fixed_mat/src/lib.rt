@@ -1,13 +1,17 @@
 //! Whole nano-units in fixed storage: rounding, and matrices and columns whose entries stay in the range of their type.
 #![tactic(auto)]
 
+mod coefs;
 mod cols;
 mod mat;
+mod products;
 mod reading;
 mod round;
 
+pub use coefs::Coefs;
 pub use cols::Cols;
 pub use mat::{Coef, Limit, Mat, OverLimit, Range, Raw};
+pub use products::{dot, row_times_column, row_times_vector};
 pub use reading::Reading;
 pub use round::{S, ceil_s, residue, rnd};
 
