@@ -29,7 +29,7 @@ columns_of-entry height count i t cells h k =
     ∙ get_or-take height (drop (t * height) cells) i (pos 0) h ∙ get_or-drop (t * height) cells i (pos 0)
 
 -- columns by their place
-same_columns : (f g : ℕ → List ℤ) (n : ℕ) → ((t : ℕ) → t < n → f t ≡ g t) → map f (range_with_len 0 n) ≡ map g (range_with_len 0 n)
+pub same_columns : (f g : ℕ → List ℤ) (n : ℕ) → ((t : ℕ) → t < n → f t ≡ g t) → map f (range_with_len 0 n) ≡ map g (range_with_len 0 n)
 same_columns f g n h =
     fill_by_all g (map f (range_with_len 0 n)) n [] (length-map-range_with_len f 0 n)
     (λ k l. get_or-map-range_with_len f 0 n k k [] l (omega arith) ∙ h k l)
