@@ -56,6 +56,14 @@ impl Coefs {
         self.items[t]
     }
 
+    /// The sum of the magnitudes, at most `ROW`.
+    pub fn sum(&self) -> u128
+        ensures value { result ≡ sum_by unsigned_abs self.now }
+        ensures within { result ≤ 10_000_000_000_000_000_000_000 }
+    {
+        self.sum
+    }
+
     /// Appends `v`, where the magnitudes still add up to at most `ROW`.
     pub fn push(&mut self, v: i128) -> Result<(), OverLimit>
         requires { length self.old < 128 }
