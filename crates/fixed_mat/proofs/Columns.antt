@@ -1,5 +1,5 @@
 -- Flat storage as a list of columns.
-use Rattle.std.proofs.Common.{◌≡◌, ℕ, ◌+◌, ◌-◌, ◌*◌, ◌^◌, ◌<◌, ◌≤◌, List, [], ◌∷◌, ◌++◌, length, length-append, get_or, take, drop, map, pos, ℤ, arith, sym, ◌∙◌, ap, mul-le-mul_right, length-drop, get_or-take, get_or-drop, drop_of_length-le, take-take, mul-le-mul, ◌⊎◌, ⊎_elim, ◌≢◌, set, get_or-set_same, get_or-set_other, length-set, subst, unsigned_abs, refl}
+use Rattle.std.proofs.Common.{◌≡◌, ℕ, zero, suc, ◌+◌, ◌-◌, ◌*◌, ◌^◌, ◌<◌, ◌≤◌, List, [], ◌∷◌, ◌++◌, length, length-append, get_or, take, drop, map, pos, ℤ, arith, sym, ◌∙◌, ap, mul-le-mul_right, length-drop, get_or-take, get_or-drop, drop_of_length-le, take-take, mul-le-mul, ◌⊎◌, ⊎_elim, ◌≢◌, set, get_or-set_same, get_or-set_other, length-set, subst, unsigned_abs, refl}
 use Rattle.std.proofs.lemmas.List.{take_all, take-append-le, drop-append-le, drop-take, ext_get_or, append_assoc, append-nil, length-take-le, get_or-append_right}
 use Rattle.std.proofs.lemmas.Slice.{between-put_mid, take-put_mid_below, drop-put_mid, put_mid-paste}
 use Rattle.std.proofs.lemmas.List.Edits.{length-paste, paste_more}
@@ -28,11 +28,13 @@ columns_of-entry height count i t cells h k =
     ap (λ xs. get_or xs i (pos 0)) (columns_of-at height count t cells [] k)
     ∙ get_or-take height (drop (t * height) cells) i (pos 0) h ∙ get_or-drop (t * height) cells i (pos 0)
 
--- columns by their place
-pub same_columns : (f g : ℕ → List ℤ) (n : ℕ) → ((t : ℕ) → t < n → f t ≡ g t) → map f (range_with_len 0 n) ≡ map g (range_with_len 0 n)
-same_columns f g n h =
-    fill_by_all g (map f (range_with_len 0 n)) n [] (length-map-range_with_len f 0 n)
-    (λ k l. get_or-map-range_with_len f 0 n k k [] l (omega arith) ∙ h k l)
+-- lists by their place
+pub tabulate-same : {A : Type 0} (n : ℕ) (f g : ℕ → A) → ((t : ℕ) → t < n → f t ≡ g t) → tabulate n f ≡ tabulate n g
+tabulate-same zero f g h = refl
+tabulate-same (suc n) f g h =
+    let next : suc n ≡ n + 1 = omega arith in
+    ap (λ m. tabulate m f) next ∙ map-range_with_len_more f 0 n n (omega arith) ∙ (λ i. tabulate-same n f g (λ t l. h t (omega arith)) i ++ h n (omega arith) i ∷ [])
+    ∙ sym (map-range_with_len_more g 0 n n (omega arith)) ∙ ap (λ m. tabulate m g) (sym next)
 
 -- one more column at the end of the storage
 pub columns_of_push : (height count : ℕ) (cells col : List ℤ) → length cells ≡ count * height → length col ≡ height
@@ -49,7 +51,7 @@ columns_of_push height count cells col size tall =
     let split = drop-append-le (count * height) cells col (omega arith) in
     let none : drop (count * height) cells ≡ [] = drop_of_length-le cells (omega arith) in
     ap (take height) (split ∙ ap (λ r. r ++ col) none) ∙ take_all height col (omega arith) in
-    map-range_with_len_more f 0 count count (omega arith) ∙ ap (λ r. r ++ f count ∷ []) (same_columns f g count before)
+    map-range_with_len_more f 0 count count (omega arith) ∙ ap (λ r. r ++ f count ∷ []) (tabulate-same count f g before)
     ∙ ap (λ c. columns_of height count cells ++ c ∷ []) last
 
 -- the storage cut after some columns
@@ -64,7 +66,7 @@ columns_of_take height count k cells size h =
     ap (λ n. take height (drop (t * height) (take n cells))) rest
     ∙ ap (take height) (drop-take (t * height) (k * height - t * height) cells)
     ∙ take-take height (k * height - t * height) (drop (t * height) cells) (omega arith) in
-    same_columns f g k before ∙ sym (take-map-range_with_len g 0 count k h)
+    tabulate-same k f g before ∙ sym (take-map-range_with_len g 0 count k h)
 
 -- some columns of the storage end within it
 pub end_within : (height count t : ℕ) → t < count → height ≤ 8 → count ≤ 128 → (t * height + height ≤ count * height) × (count * height ≤ 1024)

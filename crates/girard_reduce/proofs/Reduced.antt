@@ -9,7 +9,7 @@ use Rattle.set_rules.specs.Reduce.{rank, places, dropped, key_at, stays, kept_co
 use Rattle.set_rules.proofs.Sums.{total-zero, total-suc, total-more, total-same}
 use Rattle.set_rules.proofs.ImageSets.{length-tabulate, get_or-tabulate}
 use Rattle.std.proofs.lemmas.List.{length-map}
-use Rattle.fixed_mat.proofs.Columns.{same_columns}
+use Rattle.fixed_mat.proofs.Columns.{tabulate-same}
 use Rattle.set_rules.proofs.Ranks.{ranked-few, length-places}
 use Rattle.set_rules.specs.Zono.{Inside}
 use Rattle.set_rules.proofs.ReductionHolds.{reduction-keeps, reduction-keeps-magnitudes}
@@ -87,7 +87,7 @@ module _ (columns : List (List ℤ)) (room : ℕ) (keys : List ℤ) (marks : Lis
   unfolding reduce condense
   reduced n most radii new is more made h =
       let test : nat_le (length columns) most ≡ false = grind (arith, nat_tests) in
-      let box : diagonal_columns n (λ i. get_or radii i (pos 0)) ≡ diagonal_columns n (lost_magnitude columns room) = same_columns (λ j. tabulate n (λ i. diagonal (λ k. get_or radii k (pos 0)) i j)) (λ j. tabulate n (λ i. diagonal (lost_magnitude columns room) i j)) n (λ j l. same_column n j (λ i. get_or radii i (pos 0)) (lost_magnitude columns room)
+      let box : diagonal_columns n (λ i. get_or radii i (pos 0)) ≡ diagonal_columns n (lost_magnitude columns room) = tabulate-same n (λ j. tabulate n (λ i. diagonal (λ k. get_or radii k (pos 0)) i j)) (λ j. tabulate n (λ i. diagonal (lost_magnitude columns room) i j)) (λ j l. same_column n j (λ i. get_or radii i (pos 0)) (lost_magnitude columns room)
       (ap (λ xs. get_or xs j (pos 0)) made ∙ get_or-tabulate n (λ i. total (length columns) (dropped (marked marks) (λ t. magnitude (column_entry columns i t)))) j (pos 0) l ∙ lost-radius j)) in
       h ∙ (λ i. map (λ t. get_or columns t []) (kept-places i) ++ box i)
       ∙ ap (λ r. kept_columns columns r ++ diagonal_columns n (lost_magnitude columns r)) is
