@@ -1,7 +1,9 @@
 //! Columns of nano-units, one after another in flat storage.
 
-ghost use Rattle.std.specs.Prelude.{◌≡◌, ℕ, ◌+◌, ◌*◌, ◌<◌, ◌≤◌, [], ◌∷◌, ◌++◌, length, take, pos, unsigned_abs};
-ghost use Rattle.set_rules.specs.Columns.{column_entry, row_magnitude};
+ghost use Rattle.std.specs.Prelude.{◌≡◌, ℕ, ◌+◌, ◌*◌, ◌<◌, ◌≤◌, [], ◌∷◌, ◌++◌, length, take, pos, unsigned_abs, slice_index_or, slice_set};
+ghost use Rattle.std.specs.List.{All};
+ghost use Rattle.set_rules.specs.Columns.{entry, column_entry, row_magnitude, tabulate};
+ghost use Rattle.set_rules.specs.Symbols.{diagonal};
 
 use crate::mat::{Mat, Range};
 use arrayvec::ArrayVec;
@@ -59,6 +61,17 @@ impl<const N: usize> Cols<N> {
         self.cells[t * N + i]
     }
 
+    /// The entries of column `t`.
+    pub fn column(&self, t: usize) -> &[i128]
+        requires { t < length self.now }
+        ensures value { result.now ≡ slice_index_or self.now t [] }
+        ensures size { length result.now ≡ N }
+        ensures height_small { N ≤ 8 }
+        ensures within { All (λ z. unsigned_abs z ≤ 1_000_000_000_000_000_000) result.now }
+    {
+        &self.cells[t * N..t * N + N]
+    }
+
     /// Appends a column.
     pub fn push(&mut self, col: &Mat<N, 1, Range>)
         requires { length self.old < 128 }
@@ -66,6 +79,52 @@ impl<const N: usize> Cols<N> {
     {
         self.cells.try_extend_from_slice(col.entries()).unwrap();
         self.count += 1;
+    }
+
+    /// Appends a column that holds `v` in row `i` and zeros elsewhere.
+    pub fn push_diagonal(&mut self, i: usize, v: i128)
+        requires room { length self.old < 128 }
+        requires row { i < N }
+        requires within { unsigned_abs v ≤ 1_000_000_000_000_000_000 }
+        ensures { self.new ≡ self.old ++ tabulate N (λ j. diagonal (λ _. v) j i) ∷ [] }
+    {
+        for j in 0..N {
+            self.cells.push(diagonal_entry(i, j, v));
+        }
+        self.count += 1;
+    }
+
+    /// Appends column `c` of a matrix.
+    pub fn push_from<const C: usize>(&mut self, mat: &Mat<N, C, Range>, c: usize)
+        requires room { length self.old < 128 }
+        requires column { c < C }
+        ensures { self.new ≡ self.old ++ tabulate N (λ i. entry C mat.now i c) ∷ [] }
+    {
+        for i in 0..N {
+            self.cells.push(mat.at(i, c));
+        }
+        self.count += 1;
+    }
+
+    /// Puts `col` in the place of column `t`.
+    pub fn replace(&mut self, t: usize, col: &[i128])
+        requires column { t < length self.old }
+        requires size { length col.now ≡ N }
+        requires within { All (λ z. unsigned_abs z ≤ 1_000_000_000_000_000_000) col.now }
+        ensures { self.new ≡ slice_set self.old t col.now }
+    {
+        self.cells[t * N..t * N + N].copy_from_slice(col);
+    }
+
+    /// Puts column `from` in the place of column `to`, which comes no later.
+    pub fn copy_down(&mut self, from: usize, to: usize)
+        requires column { from < length self.old }
+        requires down { to ≤ from }
+        ensures { self.new ≡ slice_set self.old to (slice_index_or self.old from []) }
+    {
+        for i in 0..N {
+            self.cells[to * N + i] = self.cells[from * N + i];
+        }
     }
 
     /// The sum of the magnitudes in row `i`.
@@ -101,4 +160,13 @@ impl<const N: usize> Cols<N> {
             count: self.count,
         }
     }
+}
+
+/// What row `j` holds of a column with `v` in row `i` alone.
+fn diagonal_entry(i: usize, j: usize, v: i128) -> i128
+    requires { unsigned_abs v ≤ 1_000_000_000_000_000_000 }
+    ensures value { result ≡ diagonal (λ _. v) j i }
+    ensures within { unsigned_abs result ≤ 1_000_000_000_000_000_000 }
+{
+    if i == j { v } else { 0 }
 }

@@ -1,15 +1,19 @@
 //! Whole nano-units in fixed storage: rounding, and matrices and columns whose entries stay in the range of their type.
 #![tactic(auto)]
 
+mod coefs;
 mod cols;
 mod mat;
+mod products;
 mod reading;
 mod round;
 
+pub use coefs::Coefs;
 pub use cols::Cols;
 pub use mat::{Coef, Limit, Mat, OverLimit, Range, Raw};
+pub use products::{dot, row_times_column, row_times_vector};
 pub use reading::Reading;
-pub use round::{S, ceil_s, residue, rnd};
+pub use round::{Rounding, S, ceil_s, residue, rnd, rounded};
 
 /// The greatest magnitude of a coefficient of a plant, and of a gain, in nano-units.
 pub const COEF: u128 = 1_000_000_000_000;

@@ -92,6 +92,27 @@ impl<const R: usize, const C: usize, L: Limit> Mat<R, C, L> {
         &self.cells
     }
 
+    /// The same matrix once more.
+    pub fn copy(&self) -> Self
+        ensures { result ≡ self.now }
+    {
+        let mut cells = ArrayVec::new();
+        cells.try_extend_from_slice(&self.cells).unwrap();
+        Mat {
+            cells,
+            limit: PhantomData,
+        }
+    }
+
+    /// Puts these entries in the place of all, row by row.
+    pub fn replace(&mut self, entries: &[i128])
+        requires size { length entries.now ≡ R * C }
+        requires within { All (λ z. unsigned_abs z ≤ L.LIM) entries.now }
+        ensures { self.new ≡ entries.now }
+    {
+        self.cells.copy_from_slice(entries);
+    }
+
     /// The entry in row `r` and column `c`.
     pub fn at(&self, r: usize, c: usize) -> i128
         requires row { r < R }

@@ -22,7 +22,7 @@ pub fn residue(p: i128) -> i128
     ensures low { pos 0 ≤ℤ result }
     ensures half { result ≤ℤ pos 500_000_000 }
 {
-    (p - S * rnd(p)).abs()
+    rounded(p).residue
 }
 
 /// The least whole number of which `S` make `p` or more.
@@ -33,4 +33,27 @@ pub fn ceil_s(p: i128) -> i128
     ensures least { IsLeastCover p result }
 {
     (p + 999_999_999).div_euclid(S)
+}
+
+/// The rounding of a number: the nearest whole number of which `S` make it, and how far it is from that.
+#[derive(Clone, Copy, Debug)]
+pub struct Rounding {
+    pub nearest: i128,
+    pub residue: i128,
+}
+
+/// `rnd` and `residue` of `p`, by one division.
+pub fn rounded(p: i128) -> Rounding
+    requires { unsigned_abs p ≤ 10 ^ 37 }
+    ensures nearest { result.nearest ≡ rnd_of p }
+    ensures residue { result.residue ≡ residue_of p }
+    ensures near { unsigned_abs (p -ℤ pos 1_000_000_000 *ℤ result.nearest) ≤ 500_000_000 }
+    ensures low { pos 0 ≤ℤ result.residue }
+    ensures half { result.residue ≤ℤ pos 500_000_000 }
+{
+    let nearest = rnd(p);
+    Rounding {
+        nearest,
+        residue: (p - S * nearest).abs(),
+    }
 }

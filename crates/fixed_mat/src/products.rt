@@ -1,0 +1,55 @@
+//! Unrounded products of a row with a vector or a column.
+
+ghost use Rattle.std.specs.Prelude.{◌≡◌, ℕ, ◌+◌, ◌*◌, ◌<◌, ◌≤◌, ◌^◌, length, unsigned_abs, ◌*ℤ◌};
+ghost use Rattle.set_rules.specs.Sum.{total};
+ghost use Rattle.set_rules.specs.Columns.{at, entry, column_entry};
+
+use crate::cols::Cols;
+use crate::mat::{Coef, Mat, Range};
+
+/// Row `r` of `a` times the vector `x`, in nano-units times nano-units.
+pub fn row_times_vector<const R: usize, const N: usize>(
+    a: &Mat<R, N, Coef>,
+    r: usize,
+    x: &Mat<N, 1, Range>,
+) -> i128
+    requires row { r < R }
+    requires small { N ≤ 8 }
+    ensures value { result ≡ total N (λ l. entry N a.now r l *ℤ at x.now l) }
+    ensures within { unsigned_abs result ≤ N * 10 ^ 30 }
+{
+    let mut sum = 0;
+    for l in 0..N {
+        sum += a.at(r, l) * x.at(l, 0);
+    }
+    sum
+}
+
+/// Row `r` of `a` times column `t`, in nano-units times nano-units.
+pub fn row_times_column<const R: usize, const N: usize>(
+    a: &Mat<R, N, Coef>,
+    r: usize,
+    cols: &Cols<N>,
+    t: usize,
+) -> i128
+    requires row { r < R }
+    requires column { t < length cols.now }
+    ensures value { result ≡ total N (λ l. entry N a.now r l *ℤ column_entry cols.now l t) }
+    ensures within { unsigned_abs result ≤ N * 10 ^ 30 }
+{
+    let column = cols.column(t);
+    let mut sum = 0;
+    for l in 0..N {
+        sum += a.at(r, l) * column[l];
+    }
+    sum
+}
+
+/// The sum of the products of `row` with column `t`, in nano-units times nano-units.
+pub fn dot<const N: usize>(row: &Mat<1, N, Coef>, cols: &Cols<N>, t: usize) -> i128
+    requires { t < length cols.now }
+    ensures value { result ≡ total N (λ l. at row.now l *ℤ column_entry cols.now l t) }
+    ensures within { unsigned_abs result ≤ N * 10 ^ 30 }
+{
+    row_times_column(row, 0, cols, t)
+}

@@ -1,0 +1,28 @@
+-- The key of a column, entry by entry.
+use Rattle.std.proofs.Common.{◌≡◌, ℕ, ◌+◌, ◌<◌, ◌≤◌, ◌⊎◌, ⊎_elim, max, zero, suc, Bool, true, false, nat_lt, ◌&&◌, replicate, List, [], ◌∷◌, ◌++◌, get_or, take, length, ℤ, pos, unsigned_abs, refl, sym, ap, ◌∙◌, arith}
+use Rattle.std.proofs.lemmas.List.{take_more}
+use Rattle.std.proofs.lemmas.Bool.Decides.{nat_tests}
+use Rattle.set_rules.specs.Reduce.{greatest}
+
+greatest-push : (xs : List ℤ) (x : ℤ) → greatest (xs ++ x ∷ []) ≡ max (greatest xs) (unsigned_abs x)
+greatest-push [] x = omega arith
+greatest-push (y ∷ xs) x = let e = greatest-push xs x in omega arith
+
+pub greatest_more : (xs : List ℤ) (i : ℕ) → i < length xs → greatest (take (i + 1) xs) ≡ max (greatest (take i xs)) (unsigned_abs (get_or xs i (pos 0)))
+greatest_more xs i h = ap greatest (take_more xs i (pos 0) h) ∙ greatest-push (take i xs) (get_or xs i (pos 0))
+
+-- no place is marked at first
+pub unmarked : (n k : ℕ) → get_or (replicate n false) k false ≡ false
+unmarked zero k = refl
+unmarked (suc n) zero = refl
+unmarked (suc n) (suc k) = unmarked n k
+
+-- a place is marked where it is one of the keys and passes the test
+pub marked_at : (n k : ℕ) (mark test : Bool) → (k < n → mark ≡ test) → (n ≤ k → mark ≡ false) → mark ≡ (nat_lt k n && test)
+marked_at n k mark test judged left = ⊎_elim
+    (λ (h : k < n). let yes : nat_lt k n ≡ true = grind (arith, nat_tests) in judged h ∙ ap (λ b. b && test) (sym yes))
+    (λ (h : n ≤ k). let no : nat_lt k n ≡ false = grind (arith, nat_tests) in left h ∙ ap (λ b. b && test) (sym no))
+    (side k n)
+  where
+    side : (k n : ℕ) → (k < n) ⊎ (n ≤ k)
+    side k n = grind arith

@@ -1,0 +1,4 @@
+pub mod Counting
+pub mod Compaction
+pub mod Keys
+pub mod Reduced

@@ -1,0 +1,2 @@
+-- How far a box reaches.
+use Rattle.std.proofs.Common.{◌≡◌, ℕ}

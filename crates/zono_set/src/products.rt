@@ -1,0 +1,78 @@
+//! A row times a set, rounded.
+
+ghost use Rattle.std.specs.Prelude.{◌≡◌, ◌<◌, ◌≤◌, ◌^◌, length, pos, ◌≤ℤ◌, ◌+ℤ◌, ◌*ℤ◌, unsigned_abs};
+ghost use Rattle.set_rules.specs.Sum.{total, magnitude};
+ghost use Rattle.set_rules.specs.Columns.{at, entry, column_entry};
+ghost use Rattle.set_rules.specs.Round.{rnd as rnd_of, residue as residue_of};
+
+use fixed_mat::{Coef, Cols, Mat, Range, Rounding, rounded, row_times_column, row_times_vector};
+
+/// Row `r` of `a` times the centre, and `shift` more, rounded.
+pub fn rounded_centre<const R: usize, const N: usize>(
+    a: &Mat<R, N, Coef>,
+    r: usize,
+    centre: &Mat<N, 1, Range>,
+    shift: i128,
+) -> Rounding
+    requires row { r < R }
+    requires small { N ≤ 8 }
+    requires shift { unsigned_abs shift ≤ 10 ^ 28 }
+    ensures nearest { result.nearest ≡ rnd_of (total N (λ l. entry N a.now r l *ℤ at centre.now l) +ℤ shift) }
+    ensures residue { result.residue ≡ residue_of (total N (λ l. entry N a.now r l *ℤ at centre.now l) +ℤ shift) }
+    ensures within { unsigned_abs result.nearest ≤ 8_100_000_000_000_000_000_000 }
+    ensures low { pos 0 ≤ℤ result.residue }
+    ensures half { result.residue ≤ℤ pos 500_000_000 }
+{
+    rounded(row_times_vector(a, r, centre) + shift)
+}
+
+/// Row `r` of `a` times column `t`, rounded.
+pub fn rounded_column<const R: usize, const N: usize>(
+    a: &Mat<R, N, Coef>,
+    r: usize,
+    cols: &Cols<N>,
+    t: usize,
+) -> Rounding
+    requires row { r < R }
+    requires column { t < length cols.now }
+    ensures nearest { result.nearest ≡ rnd_of (total N (λ l. entry N a.now r l *ℤ column_entry cols.now l t)) }
+    ensures residue { result.residue ≡ residue_of (total N (λ l. entry N a.now r l *ℤ column_entry cols.now l t)) }
+    ensures within { unsigned_abs result.nearest ≤ 8_100_000_000_000_000_000_000 }
+    ensures low { pos 0 ≤ℤ result.residue }
+    ensures half { result.residue ≤ℤ pos 500_000_000 }
+    ensures states { N ≤ 8 }
+{
+    let _ = cols.len();
+    rounded(row_times_column(a, r, cols, t))
+}
+
+/// Over the products of a row with all columns: the sum of the rounded magnitudes, and of what the rounding leaves.
+#[derive(Drop)]
+pub struct RowSums {
+    pub size: i128,
+    pub left: i128,
+}
+
+/// The sums for row `r` of `a`.
+pub fn row_sums<const R: usize, const N: usize>(
+    a: &Mat<R, N, Coef>,
+    r: usize,
+    cols: &Cols<N>,
+) -> RowSums
+    requires { r < R }
+    ensures size { result.size ≡ total (length cols.now) (λ t. magnitude (rnd_of (total N (λ l. entry N a.now r l *ℤ column_entry cols.now l t)))) }
+    ensures left { result.left ≡ total (length cols.now) (λ t. residue_of (total N (λ l. entry N a.now r l *ℤ column_entry cols.now l t))) }
+    ensures size_low { pos 0 ≤ℤ result.size }
+    ensures size_high { result.size ≤ℤ pos (10 ^ 25) }
+    ensures left_low { pos 0 ≤ℤ result.left }
+    ensures left_high { result.left ≤ℤ pos (10 ^ 12) }
+{
+    let mut size = 0;
+    let mut left = 0;
+    for t in 0..cols.len() {
+        let product = rounded_column(a, r, cols, t);
+        size += product.nearest.abs();
+        left += product.residue;
+    }
+    RowSums { size, left }
+}

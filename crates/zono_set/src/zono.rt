@@ -1,0 +1,129 @@
+//! A zonotope: its centre and its columns.
+
+mod image;
+mod strip;
+
+ghost use Rattle.std.specs.Prelude.{◌≡◌, ℕ, ◌+◌, ◌<◌, ◌≤◌, length, ℤ, pos, ◌+ℤ◌, ◌≤ℤ◌, unsigned_abs, IfOk, IfErr, OnOk, OnErr};
+ghost use Rattle.set_rules.specs.Sum.{magnitude};
+ghost use Rattle.set_rules.specs.Columns.{at, row_magnitude};
+ghost use Rattle.set_rules.specs.Zono.{reach, InRange};
+ghost use Rattle.set_rules.specs.Box.{box, hull as hull_of};
+ghost use Rattle.set_rules.specs.Reduce.{reduce_set};
+ghost use Rattle.set_rules.specs.Image.{IsFirstPast};
+ghost use Rattle.zono_set.specs.Holds.{HoldsBox, HoldsState, HoldsSet};
+
+pub use strip::StripRow;
+
+use fixed_mat::{Cols, Mat, Range};
+use girard_reduce::reduce_in_place;
+use std::marker::Model;
+
+/// The least state in which a set reaches past `RANGE`, and how far it reaches, in nano-units.
+#[derive(Clone, Copy, Debug)]
+pub struct PastRange {
+    pub i: usize,
+    pub mag: i128,
+}
+
+/// The points `centre + columns * x` with every symbol of `x` from -1 to 1, in nano-units. In no state does it reach past `RANGE`.
+#[derive(Drop)]
+pub struct Zono<const N: usize> {
+    centre: Mat<N, 1, Range>,
+    cols: Cols<N>,
+}
+
+impl<const N: usize> Model for Zono<N> {
+    ghost use Rattle.set_rules.specs.Zono.{Zono as Set, IsZono};
+
+    ghost Value = { Set };
+
+    ghost view = { λ z. record { centre = z.centre; columns = z.cols } };
+
+    ghost invariant = { λ z. IsZono N (record { centre = z.centre; columns = z.cols }) };
+}
+
+impl<const N: usize> Zono<N> {
+    /// The box with centre `c` and radii `r`, refused where it reaches past `RANGE`.
+    pub fn of_box(c: &Mat<N, 1, Range>, r: &Mat<N, 1, Range>) -> Result<Self, PastRange>
+        requires low { 1 ≤ N }
+        requires high { N ≤ 8 }
+        requires radii { (i : ℕ) → i < N → pos 0 ≤ℤ at r.now i }
+        ensures value { IfOk result (λ z. z ≡ box N c.now r.now) }
+        ensures in_range { OnOk result (InRange N (box N c.now r.now)) }
+        ensures refused { IfErr result (λ p. (p.i < N) × IsFirstPast (box N c.now r.now) p.i p.mag) }
+        ensures holds { IfOk result (HoldsBox N c.now r.now) }
+    {
+        for i in 0..N {
+            let mag = c.at(i, 0).abs() + r.at(i, 0);
+            if mag > 1_000_000_000_000_000_000 {
+                return Err(PastRange { i, mag });
+            }
+        }
+        let mut cols = Cols::new();
+        for i in 0..N {
+            cols.push_diagonal(i, r.at(i, 0));
+        }
+        Ok(Zono {
+            centre: c.copy(),
+            cols,
+        })
+    }
+
+    /// State `i` of the centre.
+    pub fn centre(&self, i: usize) -> i128
+        requires { i < N }
+        ensures value { result ≡ at self.now.centre i }
+        ensures within { unsigned_abs result ≤ 1_000_000_000_000_000_000 }
+    {
+        self.centre.at(i, 0)
+    }
+
+    /// The columns.
+    pub fn cols(&self) -> &Cols<N>
+        ensures value { result.now ≡ self.now.columns }
+        ensures in_range { InRange N self.now }
+    {
+        &self.cols
+    }
+
+    /// The least and the greatest value in state `i`.
+    pub fn hull(&self, i: usize) -> (i128, i128)
+        requires { i < N }
+        ensures value { result ≡ hull_of self.now i }
+        ensures low { unsigned_abs result.0 ≤ 1_000_000_000_000_000_000 }
+        ensures high { unsigned_abs result.1 ≤ 1_000_000_000_000_000_000 }
+        ensures holds { HoldsState N self.now i result }
+    {
+        let centre = self.centre.at(i, 0);
+        let radius = self.cols.mag(i);
+        (centre - radius, centre + radius)
+    }
+
+    /// How far the set reaches from 0 in state `i`.
+    fn reach(&self, i: usize) -> i128
+        requires { i < N }
+        ensures value { result ≡ reach self.now i }
+        ensures within { unsigned_abs result ≤ 1_000_000_000_000_000_000 }
+        ensures states { N ≤ 8 }
+    {
+        self.centre.at(i, 0).abs() + self.cols.mag(i)
+    }
+
+    /// Puts other columns in the place of all.
+    pub fn set_cols(&mut self, g: Cols<N>)
+        requires { (i : ℕ) → i < N → (magnitude (at self.old.centre i) +ℤ row_magnitude g i) ≤ℤ pos 1_000_000_000_000_000_000 }
+        ensures { self.new ≡ record { centre = self.old.centre; columns = g.entry } }
+    {
+        self.cols = g;
+    }
+
+    /// Reduces the columns to at most `max` in place: `girard_reduce::reduce_in_place`.
+    pub fn reduce(&mut self, max: usize)
+        requires low { N ≤ max }
+        requires high { max ≤ 128 }
+        ensures value { self.new ≡ reduce_set N max self.old }
+        ensures holds { HoldsSet N self.old self.new }
+    {
+        reduce_in_place(&mut self.cols, max);
+    }
+}

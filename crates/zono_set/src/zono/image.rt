@@ -1,0 +1,243 @@
+//! The image of a set under one step of a plant, in place.
+
+ghost use Rattle.std.specs.Prelude.{◌≡◌, ℕ, ◌+◌, ◌*◌, ◌<◌, ◌≤◌, ◌^◌, length, ◌++◌, ℤ, pos, ◌+ℤ◌, ◌*ℤ◌, ◌≤ℤ◌, unsigned_abs, IsTrue, IfErr, OnOk, OnErr, slice_set};
+ghost use Rattle.set_rules.specs.Sum.{total, magnitude};
+ghost use Rattle.set_rules.specs.Columns.{at, entry, column_entry, tabulate};
+ghost use Rattle.set_rules.specs.Round.{rnd as rnd_of, residue as residue_of, ceil_s as ceil_of};
+ghost use Rattle.set_rules.specs.Reduce.{diagonal_columns};
+ghost use Rattle.set_rules.specs.Zono.{reach, range, InRange};
+ghost use Rattle.set_rules.specs.Image.{raw_centre as raw_centre_of, image as image_of, Encloses, IsFirstPast};
+ghost use Rattle.zono_set.specs.Bound.{reach_bound as reach_bound_of};
+
+use crate::products::{row_sums, rounded_centre, rounded_column};
+use crate::zono::{PastRange, Zono};
+use arrayvec::ArrayVec;
+use fixed_mat::{Coef, Cols, Mat, Range, Raw, ceil_s};
+
+impl<const N: usize> Zono<N> {
+    /// The image under `x ↦ (a x + shift) / S + e v`, rounded outwards, with every one of the `w` disturbances `v` from -1 to 1.
+    /// Refused where it reaches past `RANGE`; the set then stays as it is. After Combastel 2003.
+    pub fn image(
+        &mut self,
+        a: &Mat<N, N, Coef>,
+        shift: &Mat<N, 1, Raw>,
+        e: &Mat<N, 8, Range>,
+        w: usize,
+    ) -> Result<(), PastRange>
+        requires dists { w ≤ 8 }
+        requires room { length self.old.columns + w + N ≤ 128 }
+        ensures value { OnOk result (self.new ≡ image_of N w a.now shift.now e.now self.old) }
+        ensures in_range { OnOk result (InRange N (image_of N w a.now shift.now e.now self.old)) }
+        ensures encloses { OnOk result (Encloses N w a.now shift.now e.now self.old self.new) }
+        ensures refused { IfErr result (λ p. (p.i < N) × IsFirstPast (image_of N w a.now shift.now e.now self.old) p.i p.mag) }
+        ensures unchanged { OnErr result (self.new ≡ self.old) }
+    {
+        self.check_image(a, shift, e, w)?;
+        let of_centre = move_centre(a, shift, &mut self.centre);
+        let of_columns = move_columns(a, &mut self.cols);
+        push_noise(e, w, &mut self.cols);
+        push_slack(&of_centre, &of_columns, &mut self.cols);
+        Ok(())
+    }
+
+    /// Refuses an image that reaches past the range. A bound mostly decides, and else the exact reach is added up.
+    fn check_image(
+        &self,
+        a: &Mat<N, N, Coef>,
+        shift: &Mat<N, 1, Raw>,
+        e: &Mat<N, 8, Range>,
+        w: usize,
+    ) -> Result<(), PastRange>
+        requires { w ≤ 8 }
+        ensures ok { OnOk result (InRange N (image_of N w a.now shift.now e.now self.now)) }
+        ensures err { IfErr result (λ p. (p.i < N) × IsFirstPast (image_of N w a.now shift.now e.now self.now) p.i p.mag) }
+    {
+        if self.surely_in_range(a, shift, e, w) {
+            return Ok(());
+        }
+        for i in 0..N {
+            let mag = self.reach_after(a, shift, e, w, i);
+            if mag > 1_000_000_000_000_000_000 {
+                return Err(PastRange { i, mag });
+            }
+        }
+        Ok(())
+    }
+
+    /// Whether the bound on its reach keeps the image in range in every state.
+    fn surely_in_range(
+        &self,
+        a: &Mat<N, N, Coef>,
+        shift: &Mat<N, 1, Raw>,
+        e: &Mat<N, 8, Range>,
+        w: usize,
+    ) -> bool
+        requires { w ≤ 8 }
+        ensures { IsTrue result → InRange N (image_of N w a.now shift.now e.now self.now) }
+    {
+        let reaches = self.reaches();
+        for i in 0..N {
+            if self.reach_bound(a, shift, e, w, &reaches, i) > 1_000_000_000_000_000_000_000_000_000 {
+                return false;
+            }
+        }
+        true
+    }
+
+    /// How far the set reaches in each state.
+    fn reaches(&self) -> ArrayVec<i128, 8>
+        ensures { result.items ≡ tabulate N (reach self.now) }
+    {
+        let mut reaches = ArrayVec::new();
+        for i in 0..N {
+            reaches.push(self.reach(i));
+        }
+        reaches
+    }
+
+    /// A bound of how far the image reaches in state `i`, in nano-units times nano-units.
+    fn reach_bound(
+        &self,
+        a: &Mat<N, N, Coef>,
+        shift: &Mat<N, 1, Raw>,
+        e: &Mat<N, 8, Range>,
+        w: usize,
+        reaches: &[i128],
+        i: usize,
+    ) -> i128
+        requires dists { w ≤ 8 }
+        requires reaches { reaches.now ≡ tabulate N (reach self.now) }
+        requires row { i < N }
+        ensures { result ≡ reach_bound_of N w a.now shift.now e.now self.now i }
+    {
+        let count = self.cols.len() as i128;
+        let mut sum = 0;
+        for l in 0..N {
+            sum += a.at(i, l).abs() * reaches[l];
+        }
+        sum + shift.at(i, 0).abs() + 1_000_000_000 * (count + 2 + noise_reach(e, w, i))
+    }
+
+    /// How far the image reaches in state `i`.
+    fn reach_after(
+        &self,
+        a: &Mat<N, N, Coef>,
+        shift: &Mat<N, 1, Raw>,
+        e: &Mat<N, 8, Range>,
+        w: usize,
+        i: usize,
+    ) -> i128
+        requires row { i < N }
+        requires dists { w ≤ 8 }
+        ensures { result ≡ reach (image_of N w a.now shift.now e.now self.now) i }
+    {
+        let centre = rounded_centre(a, i, &self.centre, shift.at(i, 0));
+        let sums = row_sums(a, i, &self.cols);
+        let slack = ceil_s(centre.residue + sums.left);
+        centre.nearest.abs() + sums.size + noise_reach(e, w, i) + slack
+    }
+}
+
+/// How far the first `w` columns of `e` reach in state `i`.
+fn noise_reach<const N: usize>(e: &Mat<N, 8, Range>, w: usize, i: usize) -> i128
+    requires row { i < N }
+    requires dists { w ≤ 8 }
+    ensures value { result ≡ total w (λ t. magnitude (entry 8 e.now i t)) }
+    ensures within { unsigned_abs result ≤ 8_000_000_000_000_000_000 }
+{
+    let mut sum = 0;
+    for t in 0..w {
+        sum += e.at(i, t).abs();
+    }
+    sum
+}
+
+/// Moves the centre, and gives what the rounding leaves in each state.
+fn move_centre<const N: usize>(
+    a: &Mat<N, N, Coef>,
+    shift: &Mat<N, 1, Raw>,
+    centre: &mut Mat<N, 1, Range>,
+) -> ArrayVec<i128, 8>
+    requires small { N ≤ 8 }
+    requires fits { (i : ℕ) → i < N → unsigned_abs (rnd_of (total N (λ l. entry N a.now i l *ℤ at centre.old l) +ℤ at shift.now i)) ≤ range }
+    ensures moved { centre.new ≡ tabulate N (λ i. rnd_of (total N (λ l. entry N a.now i l *ℤ at centre.old l) +ℤ at shift.now i)) }
+    ensures left { result.items ≡ tabulate N (λ i. residue_of (total N (λ l. entry N a.now i l *ℤ at centre.old l) +ℤ at shift.now i)) }
+{
+    let mut moved: ArrayVec<i128, 8> = ArrayVec::new();
+    let mut left = ArrayVec::new();
+    for i in 0..N {
+        let state = rounded_centre(a, i, centre, shift.at(i, 0));
+        moved.push(state.nearest);
+        left.push(state.residue);
+    }
+    centre.replace(&moved);
+    left
+}
+
+/// Moves the columns, and gives the sum of what the rounding leaves in each state.
+fn move_columns<const N: usize>(a: &Mat<N, N, Coef>, cols: &mut Cols<N>) -> ArrayVec<i128, 8>
+    requires { (i : ℕ) → i < N → (t : ℕ) → t < length cols.old → unsigned_abs (rnd_of (total N (λ l. entry N a.now i l *ℤ column_entry cols.old l t))) ≤ range }
+    ensures moved { cols.new ≡ tabulate (length cols.old) (λ t. tabulate N (λ i. rnd_of (total N (λ l. entry N a.now i l *ℤ column_entry cols.old l t)))) }
+    ensures left { result.items ≡ tabulate N (λ i. total (length cols.old) (λ t. residue_of (total N (λ l. entry N a.now i l *ℤ column_entry cols.old l t)))) }
+{
+    let mut left = zeros::<N>(cols);
+    for t in 0..cols.len() {
+        move_column(a, cols, t, &mut left);
+    }
+    left
+}
+
+/// A zero for each state.
+fn zeros<const N: usize>(cols: &Cols<N>) -> ArrayVec<i128, 8>
+    ensures { result.items ≡ tabulate N (λ i. pos 0) }
+{
+    let _ = cols.len();
+    let mut zeros = ArrayVec::new();
+    for _ in 0..N {
+        zeros.push(0);
+    }
+    zeros
+}
+
+/// Moves column `t`, and adds what the rounding leaves in each state to `left`.
+fn move_column<const N: usize>(a: &Mat<N, N, Coef>, cols: &mut Cols<N>, t: usize, left: &mut [i128])
+    requires column { t < length cols.old }
+    requires fits { (i : ℕ) → i < N → unsigned_abs (rnd_of (total N (λ l. entry N a.now i l *ℤ column_entry cols.old l t))) ≤ range }
+    requires states { length left.old ≡ N }
+    requires little { (i : ℕ) → i < N → unsigned_abs (at left.old i) ≤ 10 ^ 12 }
+    ensures moved { cols.new ≡ slice_set cols.old t (tabulate N (λ i. rnd_of (total N (λ l. entry N a.now i l *ℤ column_entry cols.old l t)))) }
+    ensures left { left.new ≡ tabulate N (λ i. at left.old i +ℤ residue_of (total N (λ l. entry N a.now i l *ℤ column_entry cols.old l t))) }
+{
+    let mut moved: ArrayVec<i128, 8> = ArrayVec::new();
+    for i in 0..left.len() {
+        let state = rounded_column(a, i, cols, t);
+        moved.push(state.nearest);
+        left[i] += state.residue;
+    }
+    cols.replace(t, &moved);
+}
+
+/// Appends the first `w` columns of `e`.
+fn push_noise<const N: usize>(e: &Mat<N, 8, Range>, w: usize, cols: &mut Cols<N>)
+    requires dists { w ≤ 8 }
+    requires room { length cols.old + w ≤ 128 }
+    ensures { cols.new ≡ cols.old ++ tabulate w (λ t. tabulate N (λ i. entry 8 e.now i t)) }
+{
+    for t in 0..w {
+        cols.push_from(e, t);
+    }
+}
+
+/// Appends the diagonal columns that make up for what the rounding leaves in each state.
+fn push_slack<const N: usize>(of_centre: &[i128], of_columns: &[i128], cols: &mut Cols<N>)
+    requires centre { length of_centre.now ≡ N }
+    requires columns { length of_columns.now ≡ N }
+    requires room { length cols.old + N ≤ 128 }
+    requires centre_left { (i : ℕ) → i < N → (pos 0 ≤ℤ at of_centre.now i) × (at of_centre.now i ≤ℤ pos (10 ^ 12)) }
+    requires columns_left { (i : ℕ) → i < N → (pos 0 ≤ℤ at of_columns.now i) × (at of_columns.now i ≤ℤ pos (10 ^ 12)) }
+    ensures { cols.new ≡ cols.old ++ diagonal_columns N (λ i. ceil_of (at of_centre.now i +ℤ at of_columns.now i)) }
+{
+    for i in 0..N {
+        cols.push_diagonal(i, ceil_s(of_centre[i] + of_columns[i]));
+    }
+}
