@@ -1,1 +1,3 @@
 pub mod Plant
+pub mod SampleLimits
+pub mod Seen
