@@ -1,0 +1,2 @@
+pub mod FirstBelow
+pub mod IsPlant
