@@ -1,6 +1,7 @@
 //! Names of inputs and outputs.
 
-ghost use Rattle.std.specs.Prelude.{◌≡◌, ◌<◌, ◌≤◌, ◌==◌, [], ◌∷◌, ◌++◌, length, slice_index_or};
+ghost use Rattle.std.specs.Prelude.{◌≡◌, ◌<◌, ◌≤◌, ◌==◌, [], ◌∷◌, ◌++◌, length, slice_index_or, bytes_eq};
+ghost use Rattle.std.specs.List.{list_any};
 
 use arrayvec::{ArrayString, ArrayVec};
 use std::marker::Model;
@@ -54,6 +55,14 @@ impl Names {
         name.as_str()
     }
 
+    /// Whether this name is among them.
+    #[tactic(auto, using(crate::proofs::Tests::list_any_map))]
+    pub fn contains(&self, name: &str) -> bool
+        ensures { result ≡ list_any (bytes_eq name.now) self.now }
+    {
+        is_among(name, &self.names)
+    }
+
     /// Adds a name at the end.
     pub fn push(&mut self, name: &str)
         requires room { length self.old < 6 }
@@ -64,4 +73,10 @@ impl Names {
         text.push_str(name);
         self.names.push(text);
     }
+}
+
+fn is_among(name: &str, texts: &[ArrayString<64>]) -> bool
+    ensures { result ≡ list_any (λ text. bytes_eq name.now text.bytes) texts.now }
+{
+    texts.iter().any(|text| name == text.as_str())
 }
