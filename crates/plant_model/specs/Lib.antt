@@ -1,1 +1,5 @@
 pub mod Plant
+pub mod SampleLimits
+pub mod Seen
+pub mod Parts
+pub mod Signs

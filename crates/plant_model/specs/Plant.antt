@@ -1,5 +1,5 @@
 -- A plant, its telemetry, and the trajectories that obey it. No set stands here.
-use Rattle.std.specs.Prelude.{ℕ, ◌+◌, ◌*◌, ◌<◌, ◌≤◌, List, [], slice_index_or, Option, Some, None, IfSome, All, unsigned_abs, ℤ, pos, ◌+ℤ◌, ◌-ℤ◌, ◌*ℤ◌, ◌≤ℤ◌}
+use Rattle.std.specs.Prelude.{◌≡◌, ℕ, ◌+◌, ◌*◌, ◌<◌, ◌≤◌, List, [], length, take, slice_index_or, Option, Some, None, IfSome, All, unsigned_abs, ℤ, pos, ◌+ℤ◌, ◌-ℤ◌, ◌*ℤ◌, ◌≤ℤ◌}
 use Rattle.set_rules.specs.Sum.{total, magnitude}
 use Rattle.set_rules.specs.Columns.{at, entry, tabulate}
 use Rattle.set_rules.specs.Image.{IsStep}
@@ -33,6 +33,22 @@ AllWithinLimit limit xs = All (λ v. unsigned_abs v ≤ limit) xs
 abbrev pub AllSizes : ℕ → List ℤ → Type 0
 AllSizes limit xs = All (λ v. (pos 0 ≤ℤ v) × (v ≤ℤ pos limit)) xs
 
+-- what the matrices of a plant keep, whatever its counts are: no entry is past its limit
+pub record HasSmallEntries (p : Plant) : Type 0 where
+  pub a_small : AllWithinLimit coef p.a
+  pub b_small : AllWithinLimit coef p.b
+  pub c_small : AllWithinLimit coef p.c
+  pub d_small : AllWithinLimit coef p.d
+  pub e_small : AllWithinLimit range p.e
+  pub noise_small : AllWithinLimit range p.noise
+  pub centre_small : AllWithinLimit range p.centre
+  pub radius_small : AllWithinLimit range p.radius
+  pub bound_small : AllWithinLimit range p.state_max
+
+-- the noise of each output
+abbrev pub noises : Plant → List ℤ
+noises p = take p.outputs p.noise
+
 -- the limits of a plant
 pub record IsPlant (p : Plant) : Type 0 where
   pub some_state : 1 ≤ p.states
@@ -47,10 +63,22 @@ pub record IsPlant (p : Plant) : Type 0 where
   pub d_small : AllWithinLimit coef p.d
   pub e_small : AllWithinLimit range p.e
   pub centre_small : AllWithinLimit range p.centre
-  pub noise_size : AllSizes range p.noise
+  pub noise_size : AllSizes range (noises p)
   pub radius_size : AllSizes range p.radius
   pub bound_size : AllSizes range p.state_max
   pub box_small : (i : ℕ) → i < p.states → (magnitude (at p.centre i) +ℤ at p.radius i) ≤ℤ pos range
+
+-- how long the lists of a plant are: those that lie in a wider or a higher matrix are filled up
+pub record IsShaped (p : Plant) : Type 0 where
+  pub a_size : length p.a ≡ p.states * p.states
+  pub b_size : length p.b ≡ p.states * 4
+  pub c_size : length p.c ≡ 6 * p.states
+  pub d_size : length p.d ≡ 24
+  pub e_size : length p.e ≡ p.states * 8
+  pub noise_size : length p.noise ≡ 6
+  pub centre_size : length p.centre ≡ p.states
+  pub radius_size : length p.radius ≡ p.states
+  pub bound_size : length p.state_max ≡ p.states
 
 -- a reading that is present: its value, and how far the text may lie from it
 pub record Present : Type 0 where
