@@ -1,4 +1,4 @@
-// Reads a field of a telemetry row.
+//! Reads a field of a telemetry row.
 ghost use Rattle.std.specs.Prelude.{◌≡◌, ◌≢◌, ◌+◌, ◌*◌, ◌-◌, ◌^◌, ◌≤◌, ◌<◌, ◌||◌, min, true, [], ◌++◌, length, take, drop, IfOk, IfErr, IfSome};
 ghost use Rattle.std.specs.Char.{is_ascii_digit};
 ghost use Rattle.std.specs.List.{list_all, list_any, position};
@@ -48,11 +48,8 @@ fn number_said(text: &[u8]) -> Result<Reading, DecFault>
     if !have_digits(digits, &[]) {
         return Err(DecFault::Shape);
     }
-    scaled(
-        mantissa,
-        divided,
-        capped_number(digits, mantissa.len() + 10),
-    )
+    let size = capped_number(digits, mantissa.len() + 10);
+    scaled(mantissa, divided, size)
 }
 
 /// The text without spaces and tabs at its ends.
