@@ -1,2 +1,5 @@
 pub mod Ends
 pub mod Cuts
+pub mod Stream
+pub mod Owed
+pub mod Taken

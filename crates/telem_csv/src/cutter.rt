@@ -4,8 +4,10 @@ ghost use Rattle.std.specs.Prelude.{◌≡◌, ◌≤◌, min, ◌+◌, ◌-◌,
 ghost use Rattle.std.specs.List.{list_any, position, before_first, position_or_len};
 ghost use Rattle.telem_csv.specs.Lines.{is_feed, is_return, most_line, without_return, text_of};
 ghost use Rattle.csv.specs.Reading.{strip_bom, is_bom};
-ghost use Rattle.telem_csv.specs.Cutter.{Cutter, at_start, current, line_with, judged, taken_for, after_answer, size_refusal, feed_answer, feed_taken, after_feed, finish_answer, after_finish, text_at};
+ghost use Rattle.telem_csv.specs.Cutter.{Cutter, at_start, current, line_with, judged, taken_for, after_answer, size_refusal, judged_last, feed_answer, feed_taken, after_feed, finish_answer, after_finish, text_at, rows_owed, rows_after, telemetry_owed, telemetry_after};
+ghost use Rattle.telem_csv.specs.Columns.{Columns};
 ghost use Rattle.telem_csv.specs.Fed.{is_refusal};
+ghost use Rattle.telem_csv.specs.Telemetry.{telemetry};
 
 use crate::fed::Fed;
 use arrayvec::ArrayVec;
@@ -37,7 +39,8 @@ impl LineCutter {
     /// Before the first byte of a stream of at most `limit` bytes.
     pub fn new(limit: u64) -> LineCutter
         requires { limit ≤ 2 ^ 62 }
-        ensures { result ≡ at_start limit }
+        ensures value { result ≡ at_start limit }
+        ensures telemetry { (inputs outputs : List (List ℕ)) (bytes : List ℕ) → telemetry limit inputs outputs bytes ≡ telemetry_owed inputs outputs result bytes }
     {
         LineCutter {
             bytes: ArrayVec::new(),
@@ -70,6 +73,11 @@ impl LineCutter {
         ensures answer { result.1 ≡ feed_answer self.old piece.now }
         ensures taken { result.0 ≡ feed_taken self.old piece.now }
         ensures after { self.new ≡ after_feed self.old piece.now }
+        ensures within { result.0 ≤ length piece.now }
+
+        // However the stream is cut, it says before the piece what the answer and the rest of the stream say.
+        ensures rows { is_refusal self.old.last ≡ false → (head : Columns) (rest : List ℕ) → rows_owed head self.old (piece.now ++ rest) ≡ rows_after head result.1 self.new (drop result.0 piece.now ++ rest) }
+        ensures telemetry { is_refusal self.old.last ≡ false → (inputs outputs : List (List ℕ)) (rest : List ℕ) → telemetry_owed inputs outputs self.old (piece.now ++ rest) ≡ telemetry_after inputs outputs result.1 self.new (drop result.0 piece.now ++ rest) }
     {
         if self.last.is_refusal() {
             return (0, self.last);
@@ -82,17 +90,28 @@ impl LineCutter {
     pub fn finish(&mut self) -> Fed
         ensures answer { result ≡ finish_answer self.old }
         ensures after { self.new ≡ after_finish self.old }
+
+        // The stream says before its end what the answer says.
+        ensures rows { is_refusal self.old.last ≡ false → (head : Columns) → rows_owed head self.old [] ≡ rows_after head result self.new [] }
+        ensures telemetry { is_refusal self.old.last ≡ false → (inputs outputs : List (List ℕ)) → telemetry_owed inputs outputs self.old [] ≡ telemetry_after inputs outputs result self.new [] }
     {
         if self.last.is_refusal() {
             return self.last;
         }
         self.go_on();
-        self.last = if self.bytes.is_empty() {
+        self.last = self.last_line();
+        self.last
+    }
+
+    /// What the end of the stream makes of the line at hand.
+    fn last_line(&self) -> Fed
+        ensures { result ≡ judged_last self.now self.now.bytes }
+    {
+        if self.bytes.is_empty() {
             Fed::Ended
         } else {
             self.whole_line()
-        };
-        self.last
+        }
     }
 
     /// A line without a stray carriage return, or the refusal.
