@@ -3,3 +3,6 @@ pub mod Cuts
 pub mod Stream
 pub mod Owed
 pub mod Taken
+pub mod Plain
+pub mod Parts
+pub mod Each

@@ -4,3 +4,4 @@ pub mod Columns
 pub mod Rows
 pub mod Telemetry
 pub mod Cutter
+pub mod Fields

@@ -3,13 +3,13 @@
 ghost use Rattle.std.specs.Prelude.{◌≡◌, ◌≤◌, min, ◌+◌, ◌-◌, ◌^◌, ◌<◌, ℕ, List, length, drop, take, ◌++◌, [], false, true, not, if◌then◌else◌, IfSome, Some, None, IsTrue, MatchOption};
 ghost use Rattle.std.specs.List.{list_any, position, before_first, position_or_len};
 ghost use Rattle.telem_csv.specs.Lines.{is_feed, is_return, most_line, without_return, text_of};
-ghost use Rattle.csv.specs.Reading.{strip_bom, is_bom};
 ghost use Rattle.telem_csv.specs.Cutter.{Cutter, at_start, current, line_with, judged, taken_for, after_answer, size_refusal, judged_last, feed_answer, feed_taken, after_feed, finish_answer, after_finish, text_at, rows_owed, rows_after, telemetry_owed, telemetry_after};
 ghost use Rattle.telem_csv.specs.Columns.{Columns};
 ghost use Rattle.telem_csv.specs.Fed.{is_refusal};
 ghost use Rattle.telem_csv.specs.Telemetry.{telemetry};
 
 use crate::fed::Fed;
+use crate::marks::strip_bom;
 use arrayvec::ArrayVec;
 use std::marker::Model;
 
@@ -222,26 +222,6 @@ fn without_return(bytes: &[u8]) -> &[u8]
         return bytes;
     };
     if *last == b'\r' { text } else { bytes }
-}
-
-fn strip_bom(text: &[u8]) -> &[u8]
-    ensures { result.now ≡ strip_bom text.now }
-{
-    let [first, second, third, rest @ ..] = text else {
-        return text;
-    };
-    if is_mark(*first, *second, *third) {
-        rest
-    } else {
-        text
-    }
-}
-
-/// Whether the bytes are a byte order mark in UTF-8.
-fn is_mark(first: u8, second: u8, third: u8) -> bool
-    ensures { result ≡ is_bom first second third }
-{
-    first == 0xEF && second == 0xBB && third == 0xBF
 }
 
 fn has_return(text: &[u8]) -> bool

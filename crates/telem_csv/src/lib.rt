@@ -4,6 +4,8 @@
 mod cutter;
 mod fault;
 mod fed;
+mod fields;
+mod marks;
 
 pub use cutter::LineCutter;
 pub use fault::{Col, TelemFault, TelemWhy};

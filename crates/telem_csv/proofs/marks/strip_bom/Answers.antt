@@ -1,7 +1,7 @@
 use Rattle.std.proofs.Common.{sym, ◌∙◌, ◌-◌, length, drop, arith}
 use Rattle.std.proofs.lemmas.List.{take_all, length-drop}
 use Rattle.telem_csv.proofs.Ends.{too_short_for_mark, marked, not_marked}
-use Rattle.telem_csv.proofs.cutter.strip_bom.Goals as goal
+use Rattle.telem_csv.proofs.marks.strip_bom.Goals as goal
 
 pub returns-in_default : goal.returns-in_default
 returns-in_default c = too_short_for_mark c.args.text.now (omega (arith, c.in_default.len_below))
