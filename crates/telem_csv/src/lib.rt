@@ -1,0 +1,12 @@
+//! The telemetry: a stream of bytes cut into lines, the header, and the rows with a reading in each column.
+#![tactic(auto)]
+
+mod cutter;
+mod fault;
+mod fed;
+mod fields;
+mod marks;
+
+pub use cutter::LineCutter;
+pub use fault::{Col, TelemFault, TelemWhy};
+pub use fed::Fed;
