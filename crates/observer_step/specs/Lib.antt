@@ -1,1 +1,4 @@
 pub mod Predicted
+pub mod Estimate
+pub mod Answers
+pub mod Laws

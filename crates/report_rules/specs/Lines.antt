@@ -1,9 +1,11 @@
--- The lines of a sample that are determined by what the observer says of each model.
-use Rattle.std.specs.Prelude.{ℕ, ℤ, Bool, List, [], ◌∷◌, ◌++◌, map, Option, Some, None, not}
+-- The lines of a report that are determined by the answers of the observer.
+use Rattle.std.specs.Prelude.{ℕ, zero, suc, ℤ, Bool, List, [], ◌∷◌, ◌++◌, map, flat_map, Option, Some, None, not, if◌then◌else◌}
 use Rattle.std.specs.List.{enumerate_from}
 use Rattle.farkas_check.specs.Certificate.{Certificate}
-use Rattle.isolate_core.specs.Verdict.{verdict_of}
-use Rattle.report_text.specs.Line.{Line, title, model, pred, exclude, hull, status, possible, verdict, end}
+use Rattle.isolate_core.specs.Verdict.{verdict_of, possible_models}
+use Rattle.plant_model.specs.Plant.{Plant, Sample}
+use Rattle.model_bank.specs.Answers.{ModelAnswer, SampleAnswer, sample_answer}
+use Rattle.report_text.specs.Line.{Line, title, model, sample, pred, exclude, hull, status, possible, verdict, end}
 
 -- the title and the models' names
 abbrev pub head_lines : List (List ℕ) → List Line
@@ -22,6 +24,23 @@ abbrev pub outcome_lines : ℕ → Option Certificate → List (ℤ × ℤ) → 
 outcome_lines i (Some c) hs is_widened = exclude i c ∷ []
 outcome_lines i None hs is_widened = hull_lines i hs ++ status i (not is_widened) ∷ []
 
+-- the lines of one live model
+abbrev pub model_lines : ModelAnswer → List Line
+model_lines m = pred_lines m.index m.answer.predicted ++ outcome_lines m.index m.answer.certificate m.answer.hulls m.answer.is_widened
+
 -- the models that are still possible, and the verdict on them
 abbrev pub closing_lines : List ℕ → List Line
 closing_lines is = possible is ∷ verdict (verdict_of is) ∷ []
+
+-- the lines of a sample
+abbrev pub sample_lines : SampleAnswer → List Line
+sample_lines s = sample s.k ∷ flat_map model_lines s.models ++ possible (possible_models s.possible) ∷ verdict s.verdict ∷ []
+
+-- the lines of the first n samples
+unfoldable pub samples_lines : List Plant → List Sample → ℕ → List Line
+samples_lines ps samples zero = []
+samples_lines ps samples (suc n) = samples_lines ps samples n ++ sample_lines (sample_answer ps samples n)
+
+-- the last line stands exactly where the telemetry was read to its end
+abbrev pub last_lines : ℕ → Bool → List Line
+last_lines n is_whole = if is_whole then (end n ∷ []) else []

@@ -1,0 +1,3 @@
+pub mod CorrectionHolds
+pub mod TrajectoriesHold
+pub mod ExclusionHolds
