@@ -1,11 +1,33 @@
 -- What the lines of a report claim. The lines after `sample k`, up to the next such line, speak of sample k; `plant i` is model i.
-use Rattle.std.specs.Prelude.{◌≡◌, ℕ, ℤ, List, [], ◌∷◌, Option, Some, None, if◌then◌else◌}
+use Rattle.std.specs.Prelude.{◌≡◌, ℕ, ℤ, List, [], ◌∷◌, Option, Some, None, if◌then◌else◌, slice_index_or}
 use Rattle.set_rules.specs.Columns.{at}
 use Rattle.set_rules.specs.Box.{IsBetween}
 use Rattle.plant_model.specs.Plant.{Plant, Sample, sample_at, reading_at, Trajectory, states_at, Obeys, Consistent}
 use Rattle.observer_step.specs.Predicted.{reading_misses}
 use Rattle.farkas_check.specs.Certificate.{Certificate, by_out}
 use Rattle.report_text.specs.Line.{Line, sample, pred, exclude, hull}
+
+-- a plant of no state, past the last
+abbrev pub no_plant : Plant
+no_plant = record {
+  states = 0;
+  inputs = 0;
+  outputs = 0;
+  disturbances = 0;
+  a = [];
+  b = [];
+  c = [];
+  d = [];
+  e = [];
+  noise = [];
+  centre = [];
+  radius = [];
+  state_max = [];
+}
+
+-- the plant of model i
+abbrev pub plant_at : List Plant → ℕ → Plant
+plant_at ps i = slice_index_or ps i no_plant
 
 -- the interval holds state x of every trajectory that obeys the plant up to sample k
 abbrev pub HoldsEvery : Plant → List Sample → ℕ → ℕ → ℤ × ℤ → Type 0
