@@ -1,12 +1,12 @@
-use Rattle.std.proofs.Common.{◌≡◌, ℕ, ◌+◌, ◌*◌, ◌^◌, ◌≤◌, ◌<◌, ◌++◌, [], length, length-append, List, ℤ, pos, ◌+ℤ◌, ◌*ℤ◌, ◌≤ℤ◌, unsigned_abs, refl, ap, ◌∙◌, sym, subst, arith}
+use Rattle.std.proofs.Common.{◌≡◌, ℕ, ◌+◌, ◌≤◌, ◌++◌, [], length, ℤ, pos, ◌+ℤ◌, ◌*ℤ◌, refl, ap, ◌∙◌, sym, subst, arith}
 use Rattle.std.proofs.lemmas.Int.{ints}
 use Rattle.set_rules.specs.Sum.{total}
 use Rattle.set_rules.specs.Symbols.{diagonal}
 use Rattle.set_rules.specs.Columns.{at, entry, column_entry, tabulate}
-use Rattle.set_rules.specs.Round.{rnd, residue, ceil_s}
+use Rattle.set_rules.specs.Round.{residue, ceil_s}
 use Rattle.set_rules.specs.Reduce.{diagonal_columns}
 use Rattle.set_rules.specs.Zono.{Zono, InRange}
-use Rattle.set_rules.specs.Image.{image as image_of, raw_centre, raw_entry, slack, Encloses}
+use Rattle.set_rules.specs.Image.{image as image_of, slack, Encloses}
 use Rattle.set_rules.proofs.ImageSets.{length-tabulate, get_or-tabulate, image-parts, image-encloses, centre-in_range, entry-in_range}
 use Rattle.fixed_mat.proofs.Columns.{tabulate-same, counted}
 use Rattle.girard_reduce.proofs.Reduced.{same_column}
@@ -44,14 +44,26 @@ push_slack-requires g c =
     let centre : ℕ → ℤ = λ i. total g.row.N (λ l. entry g.row.N c.args.a.now i l *ℤ at c.self.inside.centre l) +ℤ at c.args.shift.now i in
     let product : ℕ → ℕ → ℤ = λ i t. total g.row.N (λ l. entry g.row.N c.args.a.now i l *ℤ column_entry c.self.inside.cols l t) in
     let first = c.deref.ensures.0 ∙ c.move_centre-of_centre.ensures.left in
-    let second = c.deref-2.ensures.0 ∙ c.move_columns-of_columns.ensures.left in
-    (omega arith, (ap length first ∙ length-tabulate g.row.N (λ i. residue (centre i)), (ap length second ∙ length-tabulate g.row.N (λ i. total (length c.self.inside.cols) (λ t. residue (product i t))), (omega arith, (
-      λ i h. let is = ap (λ xs. at xs i) first ∙ get_or-tabulate g.row.N (λ i. residue (centre i)) i (pos 0) h in
-        let half = residue-half (centre i) in
-        (omega (arith, ints, half.0), omega (arith, ints, half.1)),
-      λ i h. let is = ap (λ xs. at xs i) second ∙ get_or-tabulate g.row.N (λ i. total (length c.self.inside.cols) (λ t. residue (product i t))) i (pos 0) h in
-        let within = residues-within (length c.self.inside.cols) (product i) in
-        (omega (arith, ints, within.0), omega (arith, ints, within.1)))))))
+    let second = c.deref-2.ensures.0 ∙ c.move_columns-of_columns.ensures.left in (
+      omega arith,
+      (
+        ap length first ∙ length-tabulate g.row.N (λ i. residue (centre i)),
+        (
+          ap length second ∙ length-tabulate g.row.N (λ i. total (length c.self.inside.cols) (λ t. residue (product i t))),
+          (
+            omega arith,
+            (
+              λ i h. let is = ap (λ xs. at xs i) first ∙ get_or-tabulate g.row.N (λ i. residue (centre i)) i (pos 0) h in
+                  let half = residue-half (centre i) in
+                  (omega (arith, ints, half.0), omega (arith, ints, half.1)),
+              λ i h. let is = ap (λ xs. at xs i) second ∙ get_or-tabulate g.row.N (λ i. total (length c.self.inside.cols) (λ t. residue (product i t))) i (pos 0) h in
+                  let within = residues-within (length c.self.inside.cols) (product i) in
+                  (omega (arith, ints, within.0), omega (arith, ints, within.1)),
+            ),
+          ),
+        ),
+      ),
+    )
 
 -- the box that is appended is that of the slack
 slack_is : (g : Over) (c : After-push_slack g)

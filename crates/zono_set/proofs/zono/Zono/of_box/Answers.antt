@@ -1,10 +1,10 @@
-use Rattle.std.proofs.Common.{◌≡◌, ℕ, ◌+◌, ◌≤◌, ◌<◌, ◌++◌, [], length, ℤ, pos, ◌+ℤ◌, ◌≤ℤ◌, unsigned_abs, to_z, of_z, ap, ◌∙◌, sym, subst, arith, below_more}
+use Rattle.std.proofs.Common.{◌≡◌, ◌≤◌, [], ℤ, ◌+ℤ◌, unsigned_abs, to_z, of_z, ap, ◌∙◌, sym, subst, arith, below_more}
 use Rattle.std.proofs.lemmas.Int.{ints}
 use mir.Syntax.{w128}
 use Rattle.set_rules.specs.Sum.{magnitude}
 use Rattle.set_rules.specs.Symbols.{diagonal}
 use Rattle.set_rules.specs.Columns.{at, tabulate}
-use Rattle.set_rules.specs.Zono.{Zono, reach, InRange}
+use Rattle.set_rules.specs.Zono.{Zono, reach}
 use Rattle.set_rules.specs.Box.{box}
 use Rattle.set_rules.proofs.RowsHold.{box-holds}
 use Rattle.fixed_mat.proofs.Bits.{back, entry-one, sum_back}
