@@ -48,7 +48,7 @@ dropped-between keep f (suc k) =
     between false x = (omega (arith, ints), omega (arith, ints))
 
 -- a column of a box holds its own radius alone
-same_column : (n j : ℕ) (r s : ℕ → ℤ) → r j ≡ s j → tabulate n (λ i. diagonal r i j) ≡ tabulate n (λ i. diagonal s i j)
+pub same_column : (n j : ℕ) (r s : ℕ → ℤ) → r j ≡ s j → tabulate n (λ i. diagonal r i j) ≡ tabulate n (λ i. diagonal s i j)
 same_column n j r s e = ap (λ (y : ℤ). tabulate n (λ i. if nat_eq j i then y else pos 0)) e
 
 module _ (columns : List (List ℤ)) (room : ℕ) (keys : List ℤ) (marks : List Bool) (few : length columns ≤ 128)

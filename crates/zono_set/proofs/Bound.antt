@@ -1,13 +1,15 @@
 -- The bound of an image's reach: products are no greater than the products of magnitudes, and each rounding adds at most half a unit.
-use Rattle.std.proofs.Common.{◌≡◌, ℕ, zero, suc, ◌+◌, ◌*◌, ◌<◌, ◌≤◌, List, length, ℤ, pos, ◌+ℤ◌, ◌*ℤ◌, ◌-ℤ◌, ◌≤ℤ◌, unsigned_abs, refl, sym, ap, ◌∙◌, arith}
+use Rattle.std.proofs.Common.{◌≡◌, ℕ, zero, suc, ◌+◌, ◌-◌, ◌*◌, ◌<◌, ◌≤◌, List, length, ℤ, pos, negsuc, ◌+ℤ◌, ◌*ℤ◌, ◌≤ℤ◌, unsigned_abs, sum_by, mul-le-mul, sym, ap, ◌∙◌, arith}
 use Rattle.std.proofs.lemmas.Int.{ints}
 use Rattle.set_rules.specs.Sum.{total, magnitude}
-use Rattle.set_rules.specs.Columns.{at, entry, column_entry, row_magnitude}
-use Rattle.set_rules.specs.Round.{unit, rnd, residue, ceil_s}
-use Rattle.set_rules.specs.Zono.{Zono, reach, range, InRange}
+use Rattle.std.proofs.lemmas.List.FromFn.{sum_by-map-range_with_len_more}
+use Rattle.set_rules.specs.Columns.{at, entry, column_entry, tabulate}
+use Rattle.set_rules.specs.Round.{unit, rnd, residue}
+use Rattle.set_rules.specs.Zono.{Zono, reach, InRange}
+use Rattle.set_rules.specs.Strip.{raw_coefficient}
 use Rattle.set_rules.specs.Image.{image, raw_centre, raw_entry, slack}
 use Rattle.set_rules.proofs.Ring.{mul_add}
-use Rattle.set_rules.proofs.Sums.{total-zero, total-suc, total-same, total-none, total-add, total-scale, total-mono, magnitude-add, magnitude-mul}
+use Rattle.set_rules.proofs.Sums.{total-zero, total-suc, total-same, total-none, total-add, total-scale, total-mono, total-split, total-magnitudes-low, magnitude-add, magnitude-mul}
 use Rattle.set_rules.proofs.Rounds.{rnd-near, rnd-within, ceil_s-within}
 use Rattle.set_rules.proofs.ImageSets.{reach-image}
 use Rattle.zono_set.specs.Bound.{reach_bound}
@@ -91,3 +93,51 @@ reach-bounded n w a shift e z i h =
     together k whole c g noise s x y shift left bound h₁ h₂ h₃ h₄ h₅ h₆ =
         let scaled = ap (λ v. pos unit *ℤ v) h₁ in
         omega (arith, ints)
+
+total-bounded : (n : ℕ) (f : ℕ → ℤ) (m : ℕ) → ((l : ℕ) → l < n → f l ≤ℤ pos m) → total n f ≤ℤ pos (n * m)
+total-bounded zero f m h = let a = total-zero f in omega (arith, ints)
+total-bounded (suc n) f m h =
+    let before = total-bounded n f m (λ l k. h l (omega arith)) in
+    let last = h n (omega arith) in
+    let a = total-suc n f in
+    omega (arith, ints)
+
+-- a row of coefficients in range meets a set in range no further than this
+pub spread-within : (n : ℕ) (c : List ℤ) (z : Zono) → n ≤ 8 → length z.columns ≤ 128 → ((l : ℕ) → l < n → unsigned_abs (at c l) ≤ 1_000_000_000_000) → InRange n z
+    → total (length z.columns) (λ t. magnitude (rnd (raw_coefficient n c z t))) ≤ℤ pos 8_100_000_000_000_000_000_000
+spread-within n c z small few coefficients fits =
+    let k = length z.columns in
+    let products = products-within n k (at c) (at z.centre) (column_entry z.columns) in
+    let all = rounded-within k (raw_coefficient n c z) in
+    let low = magnitude-low (total n (λ l. at c l *ℤ at z.centre l)) in
+    let each = total-bounded n (λ l. magnitude (at c l) *ℤ reach z l) (1_000_000_000_000 * 1_000_000_000_000_000_000)
+    (λ l h. one (unsigned_abs (at c l)) (reach z l) (coefficients l h) (fits l h) (reach-low l)) in
+    omega (arith, ints)
+  where
+    magnitude-low : (x : ℤ) → pos 0 ≤ℤ magnitude x
+    magnitude-low x = omega (arith, ints)
+
+    reach-low : (l : ℕ) → pos 0 ≤ℤ reach z l
+    reach-low l = let low = total-magnitudes-low (length z.columns) (column_entry z.columns l) in omega (arith, ints)
+
+    one : (a : ℕ) (r : ℤ) → a ≤ 1_000_000_000_000 → r ≤ℤ pos 1_000_000_000_000_000_000 → pos 0 ≤ℤ r → (pos a *ℤ r) ≤ℤ pos (1_000_000_000_000 * 1_000_000_000_000_000_000)
+    one a (pos r) h k l = let small : r ≤ 1_000_000_000_000_000_000 = omega (arith, ints) in let m : a * r ≤ 1_000_000_000_000 * 1_000_000_000_000_000_000 = mul-le-mul h small in omega (arith, ints)
+    one a (negsuc r) h k l = absurd (omega (arith, ints))
+
+-- the first terms add up to no more than all
+pub total-prefix : (n k : ℕ) (f : ℕ → ℤ) → n ≤ k → total n (λ t. magnitude (f t)) ≤ℤ total k (λ t. magnitude (f t))
+total-prefix n k f h =
+    let whole : n + (k - n) ≡ k = omega arith in
+    let parts = ap (λ m. total m (λ t. magnitude (f t))) (sym whole) ∙ total-split n (k - n) (λ t. magnitude (f t)) in
+    let low = total-magnitudes-low (k - n) (λ t. f (n + t)) in
+    omega (arith, ints)
+
+-- the sum of the magnitudes in a list that was made from a function
+pub sum_by-tabulate : (n : ℕ) (f : ℕ → ℤ) → pos (sum_by unsigned_abs (tabulate n f)) ≡ total n (λ t. magnitude (f t))
+sum_by-tabulate zero f = sym (total-zero (λ t. magnitude (f t)))
+sum_by-tabulate (suc n) f =
+    let next : suc n ≡ n + 1 = omega arith in
+    let more = ap (λ m. sum_by unsigned_abs (tabulate m f)) next ∙ sum_by-map-range_with_len_more unsigned_abs f 0 n n (omega arith) in
+    let before = sum_by-tabulate n f in
+    let last = total-suc n (λ t. magnitude (f t)) in
+    omega (arith, ints)

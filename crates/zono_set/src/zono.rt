@@ -12,11 +12,10 @@ ghost use Rattle.set_rules.specs.Reduce.{reduce_set};
 ghost use Rattle.set_rules.specs.Image.{IsFirstPast};
 ghost use Rattle.zono_set.specs.Holds.{HoldsBox, HoldsState, HoldsSet};
 
-pub use strip::StripRow;
-
 use fixed_mat::{Cols, Mat, Range};
 use girard_reduce::reduce_in_place;
 use std::marker::Model;
+pub use strip::StripRow;
 
 /// The least state in which a set reaches past `RANGE`, and how far it reaches, in nano-units.
 #[derive(Clone, Copy, Debug)]

@@ -9,7 +9,7 @@ ghost use Rattle.set_rules.specs.Zono.{reach, range, InRange};
 ghost use Rattle.set_rules.specs.Image.{raw_centre as raw_centre_of, image as image_of, Encloses, IsFirstPast};
 ghost use Rattle.zono_set.specs.Bound.{reach_bound as reach_bound_of};
 
-use crate::products::{row_sums, rounded_centre, rounded_column};
+use crate::products::{rounded_centre, rounded_column, row_sums};
 use crate::zono::{PastRange, Zono};
 use arrayvec::ArrayVec;
 use fixed_mat::{Coef, Cols, Mat, Range, Raw, ceil_s};
@@ -77,7 +77,9 @@ impl<const N: usize> Zono<N> {
     {
         let reaches = self.reaches();
         for i in 0..N {
-            if self.reach_bound(a, shift, e, w, &reaches, i) > 1_000_000_000_000_000_000_000_000_000 {
+            if self.reach_bound(a, shift, e, w, &reaches, i)
+                > 1_000_000_000_000_000_000_000_000_000
+            {
                 return false;
             }
         }

@@ -6,7 +6,7 @@ ghost use Rattle.set_rules.specs.Round.{rnd as rnd_of, residue as residue_of};
 ghost use Rattle.set_rules.specs.Strip.{raw_output, raw_coefficient, strip_row as strip_row_of, out_interval as out_interval_of};
 ghost use Rattle.zono_set.specs.Holds.{StripHolds, HoldsReadings};
 
-use crate::products::{row_sums, rounded_centre, rounded_column};
+use crate::products::{rounded_centre, rounded_column, row_sums};
 use crate::zono::Zono;
 use fixed_mat::{Coef, Coefs, Mat, Rounding, ceil_s};
 

@@ -1,4 +1,4 @@
-use Rattle.std.proofs.Common.{◌≡◌, ◌*◌, ◌^◌, ◌≤◌, ℤ, pos, ◌*ℤ◌, unsigned_abs, to_z, of_z, ap, ◌∙◌, arith}
+use Rattle.std.proofs.Common.{◌≡◌, ◌≤◌, ◌*ℤ◌, unsigned_abs, to_z, of_z, ap, ◌∙◌, arith}
 use mir.Syntax.{w128}
 use Rattle.set_rules.specs.Sum.{total}
 use Rattle.set_rules.specs.Columns.{entry, column_entry}

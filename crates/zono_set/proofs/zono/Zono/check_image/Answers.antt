@@ -1,4 +1,4 @@
-use Rattle.std.proofs.Common.{◌+◌, ◌∙◌, arith, below_more, SFits, to_z-of_z}
+use Rattle.std.proofs.Common.{◌∙◌, arith, below_more, SFits, to_z-of_z}
 use Rattle.std.proofs.lemmas.Int.{ints}
 use mir.Syntax.{w128}
 use Rattle.zono_set.proofs.zono.Zono.check_image.Goals as goal

@@ -1,7 +1,7 @@
-use Rattle.std.proofs.Common.{◌≡◌, ◌≤◌, ◌^◌, length, ℤ, pos, ◌+ℤ◌, ◌-ℤ◌, ◌≤ℤ◌, unsigned_abs, ap, ◌∙◌, sym, subst, arith}
+use Rattle.std.proofs.Common.{◌≤◌, ◌^◌, length, ℤ, ◌+ℤ◌, ◌-ℤ◌, unsigned_abs, ap, ◌∙◌, sym, subst, arith}
 use Rattle.std.proofs.lemmas.Int.{ints}
 use Rattle.set_rules.specs.Zono.{Zono, reach}
-use Rattle.set_rules.specs.Columns.{at, column_entry, row_magnitude}
+use Rattle.set_rules.specs.Columns.{column_entry}
 use Rattle.set_rules.specs.Box.{hull as hull_of}
 use Rattle.set_rules.proofs.Sums.{total-magnitudes-low}
 use Rattle.set_rules.proofs.ReadingsHold.{hull-inside}

@@ -1,7 +1,7 @@
-use Rattle.std.proofs.Common.{◌≡◌, ◌≤◌, length, ℤ, pos, ◌+ℤ◌, ◌≤ℤ◌, unsigned_abs, ap, ◌∙◌, sym, arith}
+use Rattle.std.proofs.Common.{length, ◌+ℤ◌, ap, ◌∙◌, arith}
 use Rattle.std.proofs.lemmas.Int.{ints}
 use Rattle.set_rules.specs.Zono.{Zono, reach}
-use Rattle.set_rules.specs.Columns.{at, column_entry, row_magnitude}
+use Rattle.set_rules.specs.Columns.{at, column_entry}
 use Rattle.set_rules.proofs.Sums.{total-magnitudes-low}
 use Rattle.fixed_mat.proofs.Bits.{sum_back, entry-one}
 use Rattle.zono_set.proofs.Steps.{abs_of, abs_small}

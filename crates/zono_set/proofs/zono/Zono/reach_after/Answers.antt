@@ -1,7 +1,7 @@
-use Rattle.std.proofs.Common.{◌≡◌, ℕ, ◌+◌, ◌*◌, ◌^◌, ◌≤◌, length, ℤ, pos, ◌+ℤ◌, ◌*ℤ◌, ◌≤ℤ◌, unsigned_abs, to_z, of_z, ap, ◌∙◌, sym, arith}
+use Rattle.std.proofs.Common.{◌≡◌, ◌^◌, ◌≤◌, ◌+ℤ◌, ◌*ℤ◌, unsigned_abs, to_z, of_z, ap, ◌∙◌, sym, arith}
 use Rattle.std.proofs.lemmas.Int.{ints}
 use mir.Syntax.{w128}
-use Rattle.set_rules.specs.Sum.{total, magnitude}
+use Rattle.set_rules.specs.Sum.{total}
 use Rattle.set_rules.specs.Columns.{at, entry}
 use Rattle.set_rules.specs.Zono.{Zono, reach}
 use Rattle.set_rules.specs.Round.{rnd, residue, ceil_s}

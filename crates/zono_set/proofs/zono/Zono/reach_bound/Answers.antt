@@ -1,13 +1,13 @@
-use Rattle.std.proofs.Common.{◌≡◌, ℕ, ◌+◌, ◌*◌, ◌^◌, ◌≤◌, ◌<◌, length, get_or, ℤ, pos, ◌+ℤ◌, ◌*ℤ◌, ◌≤ℤ◌, unsigned_abs, to_z, of_z, refl, ap, ◌∙◌, sym, subst, arith}
+use Rattle.std.proofs.Common.{◌≡◌, ◌+◌, ◌^◌, ◌≤◌, ◌<◌, length, get_or, pos, ◌+ℤ◌, ◌*ℤ◌, unsigned_abs, to_z, refl, ap, ◌∙◌, sym, arith}
 use Rattle.std.proofs.lemmas.Int.{ints}
 use mir.Syntax.{w128}
-use Rattle.set_rules.specs.Sum.{total, magnitude}
+use Rattle.set_rules.specs.Sum.{magnitude}
 use Rattle.set_rules.specs.Columns.{entry, at, column_entry}
 use Rattle.set_rules.specs.Zono.{Zono, reach}
 use Rattle.set_rules.proofs.Sums.{total-zero, total-magnitudes-low}
 use Rattle.set_rules.proofs.ImageSets.{length-tabulate, get_or-tabulate}
 use Rattle.fixed_mat.proofs.Bits.{entry-one, product_fits, sum_fits, next_total, next_small, whole_sum}
-use Rattle.zono_set.proofs.Steps.{abs_of, abs_small, bound_back, bound_fits}
+use Rattle.zono_set.proofs.Steps.{abs_of, bound_back, bound_fits}
 use Rattle.zono_set.proofs.zono.Zono.reach_bound.Given.{Over}
 use Rattle.zono_set.proofs.zono.Zono.reach_bound.Goals as goal
 use Rattle.zono_set.proofs.zono.Zono.reach_bound.Goals.{After-abs, After-noise_reach}

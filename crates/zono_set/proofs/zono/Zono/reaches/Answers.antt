@@ -1,4 +1,4 @@
-use Rattle.std.proofs.Common.{◌≡◌, ◌+◌, ◌<◌, ◌≤◌, [], length, arith, ap, ◌∙◌, SFits, to_z-of_z}
+use Rattle.std.proofs.Common.{[], length, arith, ap, ◌∙◌, SFits, to_z-of_z}
 use Rattle.std.proofs.lemmas.List.FromFn.{length-map-range_with_len}
 use mir.Syntax.{w128}
 use Rattle.fixed_mat.proofs.Columns.{pushes}

@@ -1,10 +1,147 @@
-use Rattle.std.proofs.Common.{◌≡◌, ℕ, ◌+◌, ◌*◌, ◌<◌, ◌≤◌, length, map, pos, ◌+ℤ◌, ◌-ℤ◌, ◌*ℤ◌, ◌≤ℤ◌, unsigned_abs, [], ◌++◌, get_or, take, drop, set, to_z, of_z}
+use Rattle.std.proofs.Common.{◌≡◌, ℕ, ◌+◌, ◌^◌, ◌≤◌, [], ◌∷◌, ◌++◌, length, ℤ, ◌+ℤ◌, ◌-ℤ◌, ◌*ℤ◌, unsigned_abs, to_z, of_z, sum_by, ap, ◌∙◌, sym, arith}
+use Rattle.std.proofs.lemmas.Int.{ints}
 use mir.Syntax.{w128}
+use Rattle.set_rules.specs.Sum.{total, magnitude}
+use Rattle.set_rules.specs.Columns.{entry, column_entry, tabulate}
+use Rattle.set_rules.specs.Round.{rnd, residue, ceil_s}
+use Rattle.set_rules.specs.Zono.{Zono}
+use Rattle.set_rules.specs.Strip.{raw_output, raw_coefficient, strip_row, output_slack}
+use Rattle.set_rules.proofs.Sums.{total-zero, total-more}
+use Rattle.set_rules.proofs.ImageSets.{length-tabulate}
+use Rattle.set_rules.proofs.StripHolds.{strip-keeps}
+use Rattle.fixed_mat.proofs.Bits.{back, sum_on, sum_back, next_sum}
+use Rattle.fixed_mat.proofs.Columns.{pushes}
+use Rattle.zono_set.proofs.Bound.{total-prefix, sum_by-tabulate}
+use Rattle.zono_set.proofs.Steps.{first_row, sum_behind, ok_unless, slack_small, difference_back}
+use Rattle.zono_set.proofs.zono.Zono.strip_row.Given.{Over}
 use Rattle.zono_set.proofs.zono.Zono.strip_row.Goals as goal
+use Rattle.zono_set.proofs.zono.Zono.strip_row.Goals.{After-rounded_column-product, After-ceil_s}
 
 pub push-requires : goal.push-requires
-push-requires g c = ?
+push-requires g c =
+    let long = ap length c.loop-t.invariant.made ∙ length-tabulate c.loop-t.t _ in
+    let few = c.len-t-end.ensures.few in
+    omega arith
+
+-- the product of the row with the next column
+coefficient_is : (g : Over) (c : After-rounded_column-product g) → total g.row.N (λ l. entry g.row.N c.args.c_row.now 0 l *ℤ column_entry c.self.inside.cols l c.loop-t.t) ≡ raw_coefficient g.row.N c.args.c_row.now c.args.self.now c.loop-t.t
+coefficient_is g c = first_row g.row.N c.args.c_row.now (λ l. column_entry c.self.inside.cols l c.loop-t.t) ∙ ap (λ (z : Zono). raw_coefficient g.row.N c.args.c_row.now z c.loop-t.t) c.self.view_is
+
+nearest_is : (g : Over) (c : After-rounded_column-product g) → to_z w128 (of_z w128 c.rounded_column-product.result.nearest) ≡ rnd (raw_coefficient g.row.N c.args.c_row.now c.args.self.now c.loop-t.t)
+nearest_is g c = back c.rounded_column-product.result.nearest (let h = c.rounded_column-product.ensures.within in omega arith) ∙ c.rounded_column-product.ensures.nearest ∙ ap rnd (coefficient_is g c)
+
+pub unwrap-requires : goal.unwrap-requires
+unwrap-requires g c =
+    let here = (goal.at.unwrap-requires g c).After-rounded_column-product in
+    let f : ℕ → ℤ = λ t. rnd (raw_coefficient g.row.N c.args.c_row.now c.args.self.now t) in
+    let count = c.len-t-end.ensures.value ∙ ap (λ (z : Zono). length z.columns) c.self.view_is in
+    let prefix = total-prefix (c.loop-t.t + 1) (length c.args.self.now.columns) f (omega arith) in
+    let more = total-more c.loop-t.t (λ t. magnitude (f t)) in
+    let held = ap (sum_by unsigned_abs) c.loop-t.invariant.made in
+    let sum = sum_by-tabulate c.loop-t.t f in
+    let spread = c.output_middle-middle.ensures.spread in
+    let value = ap unsigned_abs (nearest_is g here) in
+    ok_unless c.push.result _ c.push.ensures.refused.0 (λ past. omega (arith, ints))
+
+pub loop-t-init : goal.loop-t-init
+loop-t-init g c = record { made = c.new-a.ensures; left = sym (total-zero _); left_low = omega (arith, ints); left_high = omega (arith, ints) }
 
 pub loop-t-preserved : goal.loop-t-preserved
-loop-t-preserved g c = ?
+loop-t-preserved g c =
+    let here = (goal.at.loop-t-preserved g c).After-rounded_column-product in
+    let few = c.len-t-end.ensures.few in
+    let low = c.loop-t.invariant.left_low in
+    let high = c.loop-t.invariant.left_high in
+    let low' = c.rounded_column-product.ensures.low in
+    let half = c.rounded_column-product.ensures.half in
+    let items = rw c.unwrap.ensures at c.push.ensures.ok in
+    let left = c.rounded_column-product.ensures.residue ∙ ap residue (coefficient_is g here) in
+    let sum = sum_on c.loop-t.left-bits c.rounded_column-product.result.residue (omega (arith, ints)) (omega (arith, ints)) in
+    record {
+      made = pushes [] _ _ _ _ _ c.loop-t.invariant.made items (nearest_is g here);
+      left = sum ∙ next_sum (to_z w128 c.loop-t.left-bits) c.rounded_column-product.result.residue c.loop-t.t (λ t. residue (raw_coefficient g.row.N c.args.c_row.now c.args.self.now t)) c.loop-t.invariant.left left;
+      left_low = omega (arith, ints);
+      left_high = omega (arith, ints);
+    }
 
+middle_residue : (g : Over) (c : After-ceil_s g) → c.output_middle-middle.result.residue ≡ residue (raw_output g.row.N c.args.c_row.now c.args.du c.args.self.now)
+middle_residue g c = c.output_middle-middle.ensures.residue ∙ ap (λ d. residue (raw_output g.row.N c.args.c_row.now d c.args.self.now)) (back c.args.du (let h = c.requires.input in omega arith))
+
+-- what makes up for the rounding
+slack_is : (g : Over) (c : After-ceil_s g) → (c.ceil_s.result ≡ output_slack g.row.N c.args.c_row.now c.args.du c.args.self.now) × (unsigned_abs c.ceil_s.result ≤ 10 ^ 12)
+slack_is g c =
+    let count = c.len-t-end.ensures.value ∙ ap (λ (z : Zono). length z.columns) c.self.view_is in
+    let few = c.len-t-end.ensures.few in
+    let end : c.loop-t.t ≡ length c.args.self.now.columns = omega arith in
+    let low = c.loop-t.invariant.left_low in
+    let high = c.loop-t.invariant.left_high in
+    let low' = c.output_middle-middle.ensures.low in
+    let half = c.output_middle-middle.ensures.half in
+    let sum = sum_behind c.output_middle-middle.result.residue c.loop-t.left-bits (omega (arith, ints)) (omega (arith, ints)) in
+    let is = c.ceil_s.ensures.value ∙ ap ceil_s sum in (
+      is ∙ (λ i. ceil_s (middle_residue g c i +ℤ (c.loop-t.invariant.left ∙ ap (λ n. total n (λ t. residue (raw_coefficient g.row.N c.args.c_row.now c.args.self.now t))) end) i)),
+      slack_small (c.output_middle-middle.result.residue +ℤ to_z w128 c.loop-t.left-bits) c.ceil_s.result (omega (arith, ints)) (omega (arith, ints)) is,
+    )
+
+last_is : (g : Over) (c : After-ceil_s g) → to_z w128 (of_z w128 (to_z w128 (of_z w128 c.args.f) +ℤ to_z w128 (of_z w128 c.ceil_s.result))) ≡ c.args.f +ℤ output_slack g.row.N c.args.c_row.now c.args.du c.args.self.now
+last_is g c =
+    let low = c.requires.noise_low in
+    let high = c.requires.noise_high in
+    let s = (slack_is g c).1 in
+    sum_back c.args.f c.ceil_s.result (omega (arith, ints)) (omega arith) ∙ ap (λ z. c.args.f +ℤ z) (slack_is g c).0
+
+pub overflow_add-f : goal.overflow_add-f
+overflow_add-f g c =
+    let low = c.requires.noise_low in
+    let high = c.requires.noise_high in
+    let s = (slack_is g c).1 in
+    omega (arith, ints)
+
+pub push-requires-2 : goal.push-requires-2
+push-requires-2 g c =
+    let long = ap length c.loop-t.invariant.made ∙ length-tabulate c.loop-t.t _ in
+    let count = c.len-t-end.ensures.value ∙ ap (λ (z : Zono). length z.columns) c.self.view_is in
+    let room = c.requires.room in
+    omega arith
+
+pub unwrap-requires-2 : goal.unwrap-requires-2
+unwrap-requires-2 g c =
+    let here = (goal.at.unwrap-requires-2 g c).After-ceil_s in
+    let f : ℕ → ℤ = λ t. rnd (raw_coefficient g.row.N c.args.c_row.now c.args.self.now t) in
+    let count = c.len-t-end.ensures.value ∙ ap (λ (z : Zono). length z.columns) c.self.view_is in
+    let prefix = total-prefix c.loop-t.t (length c.args.self.now.columns) f (omega arith) in
+    let held = ap (sum_by unsigned_abs) c.loop-t.invariant.made in
+    let sum = sum_by-tabulate c.loop-t.t f in
+    let spread = c.output_middle-middle.ensures.spread in
+    let value = ap unsigned_abs (last_is g here) in
+    let slack = ap unsigned_abs (slack_is g here).0 in
+    let small = (slack_is g here).1 in
+    let low = c.requires.noise_low in
+    let high = c.requires.noise_high in
+    ok_unless c.push-2.result _ c.push-2.ensures.refused.0 (λ past. omega (arith, ints))
+
+pub returns-clause-coefficients : goal.returns-clause-coefficients
+unfolding strip_row
+returns-clause-coefficients g c =
+    let here = (goal.at.returns-clause-coefficients g c).After-ceil_s in
+    let count = c.len-t-end.ensures.value ∙ ap (λ (z : Zono). length z.columns) c.self.view_is in
+    let end : c.loop-t.t ≡ length c.args.self.now.columns = omega arith in
+    let items = rw c.unwrap-2.ensures at c.push-2.ensures.ok in
+    items ∙ (λ i. (c.loop-t.invariant.made ∙ ap (λ n. tabulate n (λ t. rnd (raw_coefficient g.row.N c.args.c_row.now c.args.self.now t))) end) i ++ last_is g here i ∷ [])
+
+right_is : (y nearest : ℤ) → unsigned_abs y ≤ 10 ^ 18 → unsigned_abs nearest ≤ 8_100_000_000_000_000_000_000 → to_z w128 (of_z w128 (to_z w128 (of_z w128 y) -ℤ to_z w128 (of_z w128 nearest))) ≡ y -ℤ nearest
+right_is y nearest h k = difference_back y nearest (omega arith) (omega arith)
+
+pub returns-clause-right : goal.returns-clause-right
+unfolding strip_row
+returns-clause-right g c =
+    right_is c.args.y c.output_middle-middle.result.nearest c.requires.reading c.output_middle-middle.ensures.within ∙ ap (λ z. c.args.y -ℤ z) (c.output_middle-middle.ensures.nearest ∙ ap (λ d. rnd (raw_output g.row.N c.args.c_row.now d c.args.self.now)) (back c.args.du (let h = c.requires.input in omega arith)))
+
+pub returns-clause-within : goal.returns-clause-within
+returns-clause-within g c =
+    let reading = c.requires.reading in
+    let within = c.output_middle-middle.ensures.within in
+    rw (right_is c.args.y c.output_middle-middle.result.nearest reading within) (omega (arith, ints))
+
+pub returns-clause-holds : goal.returns-clause-holds
+returns-clause-holds g c q x old positive gives reads = strip-keeps g.row.N q c.args.c_row.now c.args.du c.args.y c.args.f c.args.self.now x old positive gives reads

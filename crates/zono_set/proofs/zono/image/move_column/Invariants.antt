@@ -1,4 +1,4 @@
-use Rattle.std.proofs.Common.{◌≡◌, ℕ, ◌<◌, ◌≤◌, length, ◌+ℤ◌, ◌*ℤ◌}
+use Rattle.std.proofs.Common.{◌≡◌, ℕ, ◌<◌, ◌≤◌, ◌+ℤ◌, ◌*ℤ◌}
 use Rattle.set_rules.specs.Sum.{total}
 use Rattle.set_rules.specs.Columns.{at, entry, column_entry, tabulate}
 use Rattle.set_rules.specs.Round.{rnd, residue}

@@ -1,6 +1,5 @@
-use Rattle.std.proofs.Common.{◌≡◌, ℕ, ◌+◌, ◌-◌, ◌*◌, ◌<◌, ◌≤◌, ◌^◌, [], ◌++◌, length, length-append, length-drop, drop, set, get_or, List, ℤ, pos, ◌+ℤ◌, ◌*ℤ◌, ◌≤ℤ◌, unsigned_abs, refl, ap, ◌∙◌, sym, subst, arith}
+use Rattle.std.proofs.Common.{◌≡◌, ℕ, ◌+◌, ◌<◌, ◌≤◌, [], length, length-append, length-drop, drop, set, get_or, List, ℤ, pos, ◌+ℤ◌, ◌*ℤ◌, unsigned_abs, refl, ap, ◌∙◌, sym, subst, arith}
 use Rattle.std.proofs.lemmas.Int.{ints}
-use Rattle.std.specs.List.{refill}
 use Rattle.set_rules.specs.Sum.{total}
 use Rattle.set_rules.specs.Columns.{at, entry, column_entry, tabulate}
 use Rattle.set_rules.specs.Round.{rnd, residue}
@@ -43,13 +42,24 @@ move_column-requires g c =
     let long = ap length c.loop-t.invariant.moved ∙ length-append (tabulate c.loop-t.t f) (drop c.loop-t.t c.args.cols.now) in
     let first = length-tabulate c.loop-t.t f in
     let rest = length-drop c.loop-t.t c.args.cols.now in
-    let states = ap length c.deref_mut.ensures.value ∙ ap length c.loop-t.invariant.left ∙ length-tabulate g.row.N _ in
-    (omega arith, (omega arith, (omega arith, (
-      λ i h. subst (λ (z : ℤ). unsigned_abs (rnd z) ≤ range) (sym (same_product g c i)) (c.requires i h c.loop-t.t below), (
-        states,
-        λ i h. let is = ap (λ xs. at xs i) c.deref_mut.ensures.value ∙ left_is g c i h in
-        let within = residues-within c.loop-t.t (λ t. total g.row.N (λ j. entry g.row.N c.args.a.now i j *ℤ column_entry c.args.cols.now j t)) in
-        omega (arith, ints, within.0, within.1))))))
+    let states = ap length c.deref_mut.ensures.value ∙ ap length c.loop-t.invariant.left ∙ length-tabulate g.row.N _ in (
+      omega arith,
+      (
+        omega arith,
+        (
+          omega arith,
+          (
+            λ i h. subst (λ (z : ℤ). unsigned_abs (rnd z) ≤ range) (sym (same_product g c i)) (c.requires i h c.loop-t.t below),
+            (
+              states,
+              λ i h. let is = ap (λ xs. at xs i) c.deref_mut.ensures.value ∙ left_is g c i h in
+                  let within = residues-within c.loop-t.t (λ t. total g.row.N (λ j. entry g.row.N c.args.a.now i j *ℤ column_entry c.args.cols.now j t)) in
+                  omega (arith, ints, within.0, within.1),
+            ),
+          ),
+        ),
+      ),
+    )
 
 pub loop-t-preserved : goal.loop-t-preserved
 loop-t-preserved g c =

@@ -1,4 +1,4 @@
-use Rattle.std.proofs.Common.{◌+◌, ◌*◌, ◌≤◌, pos, unsigned_abs, to_z, sym, ap, ◌∙◌, arith}
+use Rattle.std.proofs.Common.{unsigned_abs, to_z, sym, ap, ◌∙◌, arith}
 use Rattle.std.proofs.lemmas.Int.{ints}
 use mir.Syntax.{w128}
 use Rattle.set_rules.specs.Sum.{magnitude}

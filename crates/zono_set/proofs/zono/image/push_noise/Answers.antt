@@ -1,4 +1,4 @@
-use Rattle.std.proofs.Common.{◌+◌, arith, refl}
+use Rattle.std.proofs.Common.{arith, refl}
 use Rattle.fixed_mat.proofs.Columns.{pushes, counted}
 use Rattle.zono_set.proofs.zono.image.push_noise.Goals as goal
 

@@ -1,4 +1,4 @@
-use Rattle.std.proofs.Common.{◌≡◌, ◌+◌, ◌<◌, [], length, arith, ap, ◌∙◌, refl}
+use Rattle.std.proofs.Common.{[], length, arith, ap, ◌∙◌, refl}
 use Rattle.std.proofs.lemmas.List.FromFn.{length-map-range_with_len}
 use Rattle.fixed_mat.proofs.Columns.{pushes}
 use Rattle.zono_set.proofs.zono.image.zeros.Goals as goal
