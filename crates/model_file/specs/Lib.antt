@@ -6,3 +6,5 @@ pub mod Numbers
 pub mod Bank
 pub mod Models
 pub mod ModelFile
+pub mod Seen
+pub mod Parts

@@ -77,6 +77,7 @@ fn columns(earlier: &Names, array: &[Value], path: Path) -> Result<Names, ModelF
 }
 
 /// The names of the inputs; their array may be absent.
+#[tactic(auto, unfolding(crate::specs::Names::inputs_of))]
 pub fn inputs(root: &Value) -> Result<Names, ModelFault>
     ensures value { result ≡ inputs_of (view root.now) }
     ensures few { IfOk result (λ names. length names ≤ 4) }
@@ -92,6 +93,7 @@ pub fn inputs(root: &Value) -> Result<Names, ModelFault>
 }
 
 /// The names of the outputs, which differ from those of the inputs.
+#[tactic(auto, unfolding(crate::specs::Names::outputs_of))]
 pub fn outputs(inputs: &Names, root: &Value) -> Result<Names, ModelFault>
     ensures value { result ≡ outputs_of inputs.now (view root.now) }
     ensures some { IfOk result (λ names. 1 ≤ length names) }

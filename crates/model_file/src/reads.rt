@@ -12,7 +12,9 @@ use toml::Value;
 pub fn value_at(table: &Value, path: Path) -> Result<&Value, ModelFault>
     ensures { map_ok (λ v. view v.now) result ≡ value_at path (view table.now) }
 {
-    table.get(path.field.key()).ok_or(ModelFault::Missing { path })
+    table
+        .get(path.field.key())
+        .ok_or(ModelFault::Missing { path })
 }
 
 /// A value that has to be an array.

@@ -1,4 +1,4 @@
-use Rattle.std.proofs.Common.{◌≡◌, ℕ, ℤ, ◌+◌, ◌*◌, drop, map, List, Ok}
+use Rattle.std.proofs.Common.{◌≡◌, ℕ, ℤ, drop, map, Ok}
 use Rattle.toml.specs.Data.{Data}
 use Rattle.toml.specs.View.{view}
 use Rattle.model_file.specs.Steps.{◌>>=◌, each_from}
