@@ -13,7 +13,7 @@ use Rattle.plant_model.proofs.FirstBelow.{first_below-fails}
 use Rattle.model_file.specs.declared.place.Path.{Path}
 use Rattle.model_file.specs.declared.place.Field.{Field}
 use Rattle.model_file.specs.declared.plants.Counts.{Counts}
-use Rattle.model_file.specs.Steps.{◌>>=◌, passing, each_from}
+use Rattle.dec_text.specs.Steps.{◌>>=◌, passing, each_from}
 use Rattle.model_file.specs.Reads.{Judged, value_at, array_of}
 use Rattle.model_file.specs.Places.{of_model, item_of}
 use Rattle.model_file.specs.Numbers.{entry, number_in, written, zeros, vector, is_from, is_within, is_radius}

@@ -3,7 +3,7 @@ use Rattle.std.proofs.Common.{◌≡◌, ℕ, ◌+◌, ◌<◌, List, [], ◌∷
 use Rattle.std.proofs.lemmas.List.{map-append}
 use Rattle.toml.specs.View.{view}
 use Rattle.toml.specs.declared.value.Value.{Value}
-use Rattle.model_file.specs.Steps.{◌>>=◌}
+use Rattle.dec_text.specs.Steps.{◌>>=◌}
 use Rattle.model_file.specs.Reads.{Judged}
 use Rattle.model_file.specs.Bank.{Named}
 use Rattle.model_file.specs.Models.{model_of, models_from}

@@ -3,7 +3,7 @@ use Rattle.std.specs.Prelude.{ℕ, ◌+◌, ℤ, pos, negsuc, Bool, true, false,
 use Rattle.std.specs.Str.{is_utf8}
 use Rattle.toml.specs.Data.{Data, table, as_integer}
 use Rattle.toml.specs.Parse.{parse_document}
-use Rattle.model_file.specs.Steps.{◌>>=◌, given, passing}
+use Rattle.dec_text.specs.Steps.{◌>>=◌, given, passing}
 use Rattle.model_file.specs.Places.{of_file, of_model}
 use Rattle.model_file.specs.Reads.{Judged, value_at, of_kind, an_array, at_most, not_empty}
 use Rattle.model_file.specs.Names.{inputs_of, outputs_of}

@@ -4,7 +4,7 @@ use Rattle.toml.specs.Data.{Data, as_integer}
 use Rattle.set_rules.specs.Limits.{coef}
 use Rattle.set_rules.specs.Zono.{range}
 use Rattle.plant_model.specs.Plant.{Plant}
-use Rattle.model_file.specs.Steps.{◌>>=◌, passing}
+use Rattle.dec_text.specs.Steps.{◌>>=◌, passing}
 use Rattle.model_file.specs.Places.{of_model}
 use Rattle.model_file.specs.Reads.{Judged, value_at, of_kind}
 use Rattle.model_file.specs.Names.{name_of}

@@ -2,7 +2,7 @@
 use Rattle.std.specs.Prelude.{ℕ, ◌+◌, ◌-◌, Bool, ◌&&◌, not, ◌==◌, nat_lt, nat_le, List, [], ◌∷◌, ◌++◌, length, slice_index, bytes_eq, Option, Some, None, Ok}
 use Rattle.std.specs.List.{list_all, list_any}
 use Rattle.toml.specs.Data.{Data, get, as_str}
-use Rattle.model_file.specs.Steps.{◌>>=◌, passing}
+use Rattle.dec_text.specs.Steps.{◌>>=◌, passing}
 use Rattle.model_file.specs.Places.{field_text, of_file, of_model, item_of}
 use Rattle.model_file.specs.Reads.{Judged, value_at, of_kind, an_array, at_most, not_empty}
 use Rattle.model_file.specs.declared.place.Field.{Field}

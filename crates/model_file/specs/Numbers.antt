@@ -5,7 +5,7 @@ use Rattle.dec_text.specs.Decimal.{exact_of}
 use Rattle.dec_text.specs.declared.reading.DecFault.{DecFault}
 use Rattle.set_rules.specs.Columns.{at}
 use Rattle.set_rules.specs.Zono.{range}
-use Rattle.model_file.specs.Steps.{◌>>=◌, passing, each_from}
+use Rattle.dec_text.specs.Steps.{◌>>=◌, passing, each_from}
 use Rattle.model_file.specs.Places.{item_of, entry_of}
 use Rattle.model_file.specs.Reads.{Judged, value_at, array_of}
 use Rattle.model_file.specs.declared.place.Path.{Path}

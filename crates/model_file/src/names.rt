@@ -3,7 +3,7 @@
 ghost use Rattle.std.specs.Prelude.{◌≡◌, ◌≤◌, ◌++◌, length, map, IfOk};
 ghost use Rattle.std.specs.List.{list_all};
 ghost use Rattle.toml.specs.View.{view};
-ghost use Rattle.model_file.specs.Steps.{map_ok};
+ghost use Rattle.model_file.specs.Reads.{map_ok};
 ghost use Rattle.model_file.specs.Names.{has_no_outer_spaces, is_column_byte, is_printable, is_column_name, is_model_name, new_name, columns_from, inputs_of, outputs_of};
 
 use crate::reads::{an_array, at_most, not_empty, value_at};

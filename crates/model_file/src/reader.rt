@@ -2,7 +2,7 @@
 
 ghost use Rattle.std.specs.Prelude.{◌≡◌, ◌≤◌, ◌⊎◌, length, map, IfOk, IfErr};
 ghost use Rattle.toml.specs.View.{view};
-ghost use Rattle.model_file.specs.Steps.{map_ok};
+ghost use Rattle.model_file.specs.Reads.{map_ok};
 ghost use Rattle.model_file.specs.ModelFile.{version_of, are_tables, tables_of, models_in, document_of, models_of};
 
 use crate::models::models;

@@ -2,7 +2,7 @@
 
 ghost use Rattle.std.specs.Prelude.{◌≡◌, ◌≤◌, length, map, IfOk};
 ghost use Rattle.toml.specs.View.{view};
-ghost use Rattle.model_file.specs.Steps.{map_ok};
+ghost use Rattle.model_file.specs.Reads.{map_ok};
 ghost use Rattle.model_file.specs.Reads.{value_at, an_array, array_of, at_most, not_empty};
 
 use crate::{Count, ModelFault, Path};

@@ -1,6 +1,6 @@
 use Rattle.std.proofs.Common.{◌≡◌, [], ◌++◌, drop, map, Ok}
 use Rattle.toml.specs.View.{view}
-use Rattle.model_file.specs.Steps.{◌>>=◌}
+use Rattle.dec_text.specs.Steps.{◌>>=◌}
 use Rattle.model_file.specs.Models.{models_from}
 use Rattle.model_file.specs.Seen.{named, name_seen}
 use Rattle.model_file.proofs.models.models.Given as goal

@@ -1,6 +1,6 @@
 use Rattle.std.proofs.Common.{◌≡◌, ◌++◌, drop, take, map, Ok}
 use Rattle.toml.specs.View.{view}
-use Rattle.model_file.specs.Steps.{◌>>=◌}
+use Rattle.dec_text.specs.Steps.{◌>>=◌}
 use Rattle.model_file.specs.ModelFile.{are_tables}
 use Rattle.model_file.proofs.reader.check_tables.Given as goal
 
