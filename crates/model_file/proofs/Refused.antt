@@ -1,9 +1,9 @@
 -- An array of which an item is refused.
 use Rattle.std.proofs.Common.{◌≡◌, ℕ, suc, ◌+◌, ◌<◌, List, ◌∷◌, length, get_or, drop, map, Result, Ok, Err, sym, ap, ◌∙◌, add-one, drop-cons}
-use Rattle.model_file.specs.Steps.{◌>>=◌, each_from}
+use Rattle.dec_text.specs.Steps.{◌>>=◌, each_from}
 
 -- the item at index i is the first that is left
-map-drop : {A B : Type 0} (f : A → B) (xs : List A) (i : ℕ) (x : A) → i < length xs → x ≡ get_or xs i x → map f (drop i xs) ≡ f x ∷ map f (drop (i + 1) xs)
+pub map-drop : {A B : Type 0} (f : A → B) (xs : List A) (i : ℕ) (x : A) → i < length xs → x ≡ get_or xs i x → map f (drop i xs) ≡ f x ∷ map f (drop (i + 1) xs)
 map-drop f xs i x below is = rw (drop-cons xs i x below, add-one) (ap (λ y. f y ∷ map f (drop (suc i) xs)) (sym is))
 
 module _ {A B C D E F : Type 0} (f : A → B) (step : ℕ → B → Result C E) (g : C → F) where

@@ -1,5 +1,5 @@
 -- What a model file gives: names, and named plants.
-use Rattle.std.specs.Prelude.{◌≡◌, ℕ, ◌≤◌, List, length}
+use Rattle.std.specs.Prelude.{◌≡◌, ℕ, ◌≤◌, List, [], length}
 use Rattle.std.specs.List.{All}
 use Rattle.plant_model.specs.Plant.{Plant}
 
@@ -25,3 +25,24 @@ pub record IsModels (b : Models) : Type 0 where
   pub some_model : 1 ≤ length b.models
   pub few_models : length b.models ≤ 16
   pub counts : All (HasCounts (length b.inputs) (length b.outputs)) b.models
+
+-- what stands past the last model
+abbrev pub no_model : Named
+no_model = record {
+  name = [];
+  plant = record {
+    states = 0;
+    inputs = 0;
+    outputs = 0;
+    disturbances = 0;
+    a = [];
+    b = [];
+    c = [];
+    d = [];
+    e = [];
+    noise = [];
+    centre = [];
+    radius = [];
+    state_max = [];
+  };
+}

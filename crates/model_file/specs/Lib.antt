@@ -1,4 +1,3 @@
-pub mod Steps
 pub mod Places
 pub mod Reads
 pub mod Names
@@ -6,3 +5,5 @@ pub mod Numbers
 pub mod Bank
 pub mod Models
 pub mod ModelFile
+pub mod Seen
+pub mod Parts

@@ -1,9 +1,9 @@
 -- What a model file says: the names and the models, or the first refusal in the order of the fields.
-use Rattle.std.specs.Prelude.{ℕ, ◌+◌, ℤ, pos, negsuc, Bool, true, false, ◌==◌, nat_lt, if◌then◌else◌, List, [], length, Option, None, Ok, Err}
+use Rattle.std.specs.Prelude.{ℕ, ◌+◌, ℤ, pos, negsuc, Bool, true, false, ◌==◌, nat_lt, if◌then◌else◌, List, [], ◌∷◌, length, None, Ok, Err}
 use Rattle.std.specs.Str.{is_utf8}
 use Rattle.toml.specs.Data.{Data, table, as_integer}
 use Rattle.toml.specs.Parse.{parse_document}
-use Rattle.model_file.specs.Steps.{◌>>=◌, given, passing, each_from}
+use Rattle.dec_text.specs.Steps.{◌>>=◌, given, passing}
 use Rattle.model_file.specs.Places.{of_file, of_model}
 use Rattle.model_file.specs.Reads.{Judged, value_at, of_kind, an_array, at_most, not_empty}
 use Rattle.model_file.specs.Names.{inputs_of, outputs_of}
@@ -17,20 +17,24 @@ abbrev pub is_table : Data → Bool
 is_table (table ms) = true
 is_table _ = false
 
+-- these values, where each is a table; the first that is none is refused at its place, from index i on
+abbrev pub are_tables : ℕ → List Data → Judged (List Data)
+are_tables i [] = Ok []
+are_tables i (d ∷ ds) = passing is_table (fault.Kind (of_model i Field.Models)) d >>= λ t. are_tables (i + 1) ds >>= λ ts. Ok (t ∷ ts)
+
 abbrev pub is_one : ℤ → Bool
 is_one (pos n) = n == 1
 is_one (negsuc n) = false
 
--- the version, which is 1
-abbrev pub version_of : Data → Judged ℤ
+-- the version has to be 1
+unfoldable pub version_of : Data → Judged (Unit {0})
 version_of root =
-    value_at (of_file Field.Version) root >>= λ v. of_kind (of_file Field.Version) (as_integer v) >>= passing is_one (fault.Kind (of_file Field.Version))
+    value_at (of_file Field.Version) root >>= λ v. of_kind (of_file Field.Version) (as_integer v) >>= passing is_one (fault.Kind (of_file Field.Version)) >>= λ one. Ok tt
 
 -- the tables of the models, each seen to be a table before any is read
-abbrev pub tables_of : Data → Judged (List Data)
+unfoldable pub tables_of : Data → Judged (List Data)
 tables_of root =
-    value_at (of_file Field.Models) root >>= an_array (of_file Field.Models) >>= at_most 16 Count.Models >>= not_empty (of_file Field.Models)
-    >>= each_from 0 (λ i. passing is_table (fault.Kind (of_model i Field.Models)))
+    value_at (of_file Field.Models) root >>= an_array (of_file Field.Models) >>= at_most 16 Count.Models >>= not_empty (of_file Field.Models) >>= are_tables 0
 
 -- what a document says
 unfoldable pub models_in : Data → Judged Models

@@ -2,7 +2,7 @@
 use Rattle.std.specs.Prelude.{ℕ, ◌+◌, ◌-◌, Bool, ◌&&◌, not, ◌==◌, nat_lt, nat_le, List, [], ◌∷◌, ◌++◌, length, slice_index, bytes_eq, Option, Some, None, Ok}
 use Rattle.std.specs.List.{list_all, list_any}
 use Rattle.toml.specs.Data.{Data, get, as_str}
-use Rattle.model_file.specs.Steps.{◌>>=◌, passing}
+use Rattle.dec_text.specs.Steps.{◌>>=◌, passing}
 use Rattle.model_file.specs.Places.{field_text, of_file, of_model, item_of}
 use Rattle.model_file.specs.Reads.{Judged, value_at, of_kind, an_array, at_most, not_empty}
 use Rattle.model_file.specs.declared.place.Field.{Field}
@@ -44,15 +44,15 @@ inputs_in None = Ok []
 inputs_in (Some d) = an_array (of_file Field.Inputs) d >>= at_most 4 Count.Inputs >>= columns_from (of_file Field.Inputs) 0 []
 
 -- the names of the inputs, whose array may be absent
-abbrev pub inputs_of : Data → Judged (List (List ℕ))
+unfoldable pub inputs_of : Data → Judged (List (List ℕ))
 inputs_of root = inputs_in (get (field_text Field.Inputs) root)
 
 -- the names of the outputs, which differ from those of the inputs
-abbrev pub outputs_of : List (List ℕ) → Data → Judged (List (List ℕ))
+unfoldable pub outputs_of : List (List ℕ) → Data → Judged (List (List ℕ))
 outputs_of inputs root =
     value_at (of_file Field.Outputs) root >>= an_array (of_file Field.Outputs) >>= at_most 6 Count.Outputs >>= not_empty (of_file Field.Outputs)
     >>= columns_from (of_file Field.Outputs) 0 inputs
 
 -- the name of model i, after those of the models before it
-abbrev pub name_of : List (List ℕ) → ℕ → Data → Judged (List ℕ)
+unfoldable pub name_of : List (List ℕ) → ℕ → Data → Judged (List ℕ)
 name_of earlier i model = value_at (of_model i Field.Name) model >>= new_name is_model_name earlier (of_model i Field.Name)

@@ -5,7 +5,7 @@ use Rattle.dec_text.specs.Decimal.{exact_of}
 use Rattle.dec_text.specs.declared.reading.DecFault.{DecFault}
 use Rattle.set_rules.specs.Columns.{at}
 use Rattle.set_rules.specs.Zono.{range}
-use Rattle.model_file.specs.Steps.{◌>>=◌, passing, each_from}
+use Rattle.dec_text.specs.Steps.{◌>>=◌, passing, each_from}
 use Rattle.model_file.specs.Places.{item_of, entry_of}
 use Rattle.model_file.specs.Reads.{Judged, value_at, array_of}
 use Rattle.model_file.specs.declared.place.Path.{Path}
@@ -48,7 +48,7 @@ abbrev pub zeros : ℕ → List ℤ
 zeros n = replicate n (pos 0)
 
 -- so many numbers, each passing the test at its index, at the front of a list of zeros of this length
-abbrev pub vector : ℕ → (ℕ → ℤ → Bool) → Path → ℕ → Data → Judged (List ℤ)
+unfoldable pub vector : ℕ → (ℕ → ℤ → Bool) → Path → ℕ → Data → Judged (List ℤ)
 vector room test path want model =
     value_at path model >>= array_of want path >>= each_from 0 (λ i. entry (test i) (item_of path i)) >>= λ xs. Ok (written (zeros room) 0 xs)
 
@@ -64,12 +64,12 @@ abbrev pub row_written : ℕ → ℕ → Path → List ℤ → ℕ → ℕ → D
 row_written wide most path m width r d = row_of most path width d >>= λ xs. Ok (written m (r * wide) xs)
 
 -- rows of numbers within a limit, in the corner of a matrix of zeros of this height and width
-abbrev pub matrix : ℕ → ℕ → ℕ → Path → ℕ → ℕ → Data → Judged (List ℤ)
+unfoldable pub matrix : ℕ → ℕ → ℕ → Path → ℕ → ℕ → Data → Judged (List ℤ)
 matrix high wide most path height width model =
     value_at path model >>= array_of height path >>= each_from 0 (λ r. row_of most (item_of path r) width) >>= λ rows. Ok (rows_written wide (zeros (high * wide)) 0 rows)
 
 -- a matrix of no columns is not read
-abbrev pub matrix_unless_empty : ℕ → ℕ → ℕ → Path → ℕ → ℕ → Data → Judged (List ℤ)
+unfoldable pub matrix_unless_empty : ℕ → ℕ → ℕ → Path → ℕ → ℕ → Data → Judged (List ℤ)
 matrix_unless_empty high wide most path height width model =
     if width == 0 then Ok (zeros (high * wide)) else matrix high wide most path height width model
 

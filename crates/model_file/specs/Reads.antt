@@ -1,7 +1,7 @@
 -- Values of the document by their keys and kinds.
-use Rattle.std.specs.Prelude.{ℕ, ◌==◌, nat_lt, nat_le, List, [], ◌∷◌, length, Option, None, Result, Ok}
+use Rattle.std.specs.Prelude.{ℕ, ◌==◌, nat_lt, nat_le, List, [], ◌∷◌, length, Option, None, Result, Ok, Err}
 use Rattle.toml.specs.Data.{Data, Items, no_items, item, get, as_array}
-use Rattle.model_file.specs.Steps.{◌>>=◌, given, passing}
+use Rattle.dec_text.specs.Steps.{◌>>=◌, given, passing}
 use Rattle.model_file.specs.Places.{field_text}
 use Rattle.model_file.specs.declared.place.Count.{Count}
 use Rattle.model_file.specs.declared.place.Path.{Path}
@@ -42,3 +42,8 @@ not_empty path ds = passing (λ xs. nat_lt 0 (length xs)) (fault.Shape path 1 (l
 -- an array of exactly so many
 abbrev pub array_of : ℕ → Path → Data → Judged (List Data)
 array_of want path d = an_array path d >>= of_length want path
+
+-- the answer, seen as f sees it
+abbrev pub map_ok : {A B E : Type 0} → (A → B) → Result A E → Result B E
+map_ok f (Ok x) = Ok (f x)
+map_ok f (Err e) = Err e

@@ -3,7 +3,7 @@
 ghost use Rattle.std.specs.Prelude.{◌≡◌, ◌≤◌, ◌++◌, length, map, IfOk};
 ghost use Rattle.std.specs.List.{list_all};
 ghost use Rattle.toml.specs.View.{view};
-ghost use Rattle.model_file.specs.Steps.{map_ok};
+ghost use Rattle.model_file.specs.Reads.{map_ok};
 ghost use Rattle.model_file.specs.Names.{has_no_outer_spaces, is_column_byte, is_printable, is_column_name, is_model_name, new_name, columns_from, inputs_of, outputs_of};
 
 use crate::reads::{an_array, at_most, not_empty, value_at};
@@ -77,6 +77,7 @@ fn columns(earlier: &Names, array: &[Value], path: Path) -> Result<Names, ModelF
 }
 
 /// The names of the inputs; their array may be absent.
+#[tactic(auto, unfolding(crate::specs::Names::inputs_of))]
 pub fn inputs(root: &Value) -> Result<Names, ModelFault>
     ensures value { result ≡ inputs_of (view root.now) }
     ensures few { IfOk result (λ names. length names ≤ 4) }
@@ -92,6 +93,7 @@ pub fn inputs(root: &Value) -> Result<Names, ModelFault>
 }
 
 /// The names of the outputs, which differ from those of the inputs.
+#[tactic(auto, unfolding(crate::specs::Names::outputs_of))]
 pub fn outputs(inputs: &Names, root: &Value) -> Result<Names, ModelFault>
     ensures value { result ≡ outputs_of inputs.now (view root.now) }
     ensures some { IfOk result (λ names. 1 ≤ length names) }

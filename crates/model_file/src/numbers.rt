@@ -2,7 +2,7 @@
 
 ghost use Rattle.std.specs.Prelude.{◌≡◌, ◌*◌, ◌<◌, ◌≤◌};
 ghost use Rattle.toml.specs.View.{view};
-ghost use Rattle.model_file.specs.Steps.{map_ok};
+ghost use Rattle.model_file.specs.Reads.{map_ok};
 ghost use Rattle.model_file.specs.Numbers.{number_in, entry_written, row_written, matrix, matrix_unless_empty, number_written, vector, is_from, is_radius};
 
 use crate::reads::{array_of, value_at};
@@ -63,6 +63,7 @@ fn write_row<const R: usize, const C: usize, L: Limit>(
 }
 
 /// So many rows of so many entries within the limit, in the corner of a matrix of zeros.
+#[tactic(auto, unfolding(crate::specs::Numbers::matrix))]
 pub fn matrix<const R: usize, const C: usize, L: Limit>(
     table: &Value,
     path: Path,
@@ -85,6 +86,7 @@ pub fn matrix<const R: usize, const C: usize, L: Limit>(
 }
 
 /// The same, where a matrix without columns is not read.
+#[tactic(auto, unfolding(crate::specs::Numbers::matrix_unless_empty))]
 pub fn matrix_unless_empty<const R: usize, const C: usize, L: Limit>(
     table: &Value,
     path: Path,
@@ -124,6 +126,7 @@ fn write_number<const R: usize>(
 }
 
 /// So many numbers from the least one on, at the front of a column of zeros.
+#[tactic(auto, unfolding(crate::specs::Numbers::vector))]
 pub fn vector<const R: usize>(
     table: &Value,
     path: Path,
@@ -162,6 +165,7 @@ fn write_radius<const R: usize>(
 }
 
 /// A radius for each entry of the centre.
+#[tactic(auto, unfolding(crate::specs::Numbers::vector))]
 pub fn radii<const R: usize>(
     table: &Value,
     path: Path,

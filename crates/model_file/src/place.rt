@@ -1,6 +1,6 @@
 //! Places in a model file.
 
-ghost use Rattle.std.specs.Prelude.{◌≡◌, ◌<◌, ◌^◌};
+ghost use Rattle.std.specs.Prelude.{◌≡◌, ◌<◌, ◌≤◌, ◌^◌, length};
 
 /// A field of the file, or of one of its models.
 #[derive(Clone, Copy, Debug, PartialEq, Eq)]
@@ -48,7 +48,8 @@ impl Field {
 
     /// The key of the field in its table.
     pub fn key(self) -> &'static str
-        ensures { result.now ≡ field_text self }
+        ensures text { result.now ≡ field_text self }
+        ensures short { length result.now ≤ 12 }
     {
         match self {
             Field::Version => "version",

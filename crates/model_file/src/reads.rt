@@ -2,7 +2,7 @@
 
 ghost use Rattle.std.specs.Prelude.{◌≡◌, ◌≤◌, length, map, IfOk};
 ghost use Rattle.toml.specs.View.{view};
-ghost use Rattle.model_file.specs.Steps.{map_ok};
+ghost use Rattle.model_file.specs.Reads.{map_ok};
 ghost use Rattle.model_file.specs.Reads.{value_at, an_array, array_of, at_most, not_empty};
 
 use crate::{Count, ModelFault, Path};
@@ -12,7 +12,9 @@ use toml::Value;
 pub fn value_at(table: &Value, path: Path) -> Result<&Value, ModelFault>
     ensures { map_ok (λ v. view v.now) result ≡ value_at path (view table.now) }
 {
-    table.get(path.field.key()).ok_or(ModelFault::Missing { path })
+    table
+        .get(path.field.key())
+        .ok_or(ModelFault::Missing { path })
 }
 
 /// A value that has to be an array.

@@ -33,3 +33,9 @@ first_below-none p (suc n) none i below =
     by None before b last (inl lower) earlier = earlier before lower
     by None before true last (inr same) earlier = absurd (let h = rw (before, last) at none in cc)
     by None before false last (inr same) earlier = rw same last
+
+-- and the converse
+pub first_below-fails : (p : ℕ → Bool) (n : ℕ) → ((i : ℕ) → i < n → p i ≡ false) → first_below n p ≡ None
+unfolding first_below
+first_below-fails p zero fails = refl
+first_below-fails p (suc n) fails = let last = fails n (omega arith) in rw (first_below-fails p n (λ i below. fails i (omega arith)), last) refl

@@ -1,6 +1,6 @@
 use Rattle.std.proofs.Common.{◌≡◌, ◌++◌, length, drop, map, Ok}
 use Rattle.toml.specs.View.{view}
-use Rattle.model_file.specs.Steps.{◌>>=◌}
+use Rattle.dec_text.specs.Steps.{◌>>=◌}
 use Rattle.model_file.specs.Names.{columns_from}
 use Rattle.model_file.proofs.names.columns.Given as goal
 

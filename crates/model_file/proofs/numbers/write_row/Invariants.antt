@@ -1,7 +1,7 @@
 use Rattle.std.proofs.Common.{◌≡◌, ℕ, ℤ, ◌+◌, ◌*◌, drop, map, Ok}
 use Rattle.toml.specs.Data.{Data}
 use Rattle.toml.specs.View.{view}
-use Rattle.model_file.specs.Steps.{◌>>=◌, each_from}
+use Rattle.dec_text.specs.Steps.{◌>>=◌, each_from}
 use Rattle.model_file.specs.Places.{entry_of}
 use Rattle.model_file.specs.Reads.{Judged}
 use Rattle.model_file.specs.Numbers.{is_within, entry, written}
