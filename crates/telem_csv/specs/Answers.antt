@@ -1,5 +1,5 @@
 -- Answers that can be want of memory.
-use Rattle.std.specs.Prelude.{◌≡◌, ◌≢◌, Result, Ok, Err, MatchResult}
+use Rattle.std.specs.Prelude.{◌≡◌, ◌≢◌, Result, Ok, Err}
 use Rattle.telem_csv.specs.declared.fault.TelemWhy.{TelemWhy}
 use Rattle.telem_csv.specs.declared.fault.TelemWhy.TheVariants as why
 
