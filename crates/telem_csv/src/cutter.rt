@@ -75,6 +75,8 @@ impl LineCutter {
         ensures taken { result.0 ≡ feed_taken self.old piece.now }
         ensures after { self.new ≡ after_feed self.old piece.now }
         ensures within { result.0 ≤ length piece.now }
+        ensures more { result.1 ≡ Fed.More → result.0 ≡ length piece.now }
+        ensures line { result.1 ≡ Fed.Line → 1 ≤ result.0 }
         ensures last { self.new.last ≡ result.1 }
 
         // However the stream is cut, it says before the piece what the answer and the rest of the stream say.
