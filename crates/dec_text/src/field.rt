@@ -53,7 +53,7 @@ fn number_said(text: &[u8]) -> Result<Reading, DecFault>
 }
 
 /// The text without spaces and tabs at its ends.
-fn without_gaps(field: &[u8]) -> &[u8]
+pub fn without_gaps(field: &[u8]) -> &[u8]
     ensures { result.now ≡ without_gaps field.now }
 {
     without_back_gaps(without_front_gaps(field))

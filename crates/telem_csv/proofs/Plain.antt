@@ -4,10 +4,11 @@ use Rattle.std.specs.Prelude.{◌==◌, if◌then◌else◌, option_map}
 use Rattle.std.specs.List.{list_any, slice_split, onto_first}
 use Rattle.std.proofs.lemmas.List.{append-nil}
 use Rattle.std.proofs.lemmas.Bool.Decides.{nat_tests}
-use Rattle.csv.specs.Machine.{next_record, Read, step}
-use Rattle.csv.specs.Reading.{default_config, strip_bom, is_bom}
+use Rattle.csv.specs.Machine.{next_record, Read}
+use Rattle.csv.specs.Reading.{default_config, strip_bom}
 use Rattle.csv.specs.declared.parser.State.{State}
 use Rattle.csv.specs.declared.parser.State.TheVariants as st
+use Rattle.telem_csv.proofs.Ends.{mark_gone}
 use Rattle.telem_csv.specs.Fields.{is_comma, is_quote}
 use Rattle.telem_csv.specs.Lines.{is_feed, is_return, fields_in, IsLineText}
 
@@ -107,20 +108,8 @@ pub blank_line : (text : List ℕ) → text ≡ [] → option_map (λ r. r.0) (n
 unfolding next_record
 blank_line text h = rw h refl
 
--- no byte comes with a mark's going
-without_mark : (p : ℕ → Bool) (text : List ℕ) → list_any p text ≡ false → list_any p (strip_bom text) ≡ false
-unfolding strip_bom
-without_mark p [] h = h
-without_mark p (a ∷ []) h = h
-without_mark p (a ∷ b ∷ []) h = h
-without_mark p (a ∷ b ∷ c ∷ rest) h = by_mark (is_bom a b c)
-  where
-    by_mark : (m : Bool) → list_any p (if m then rest else (a ∷ b ∷ c ∷ rest)) ≡ false
-    by_mark true = (neither (p c) (list_any p rest) (neither (p b) (p c || list_any p rest) (neither (p a) (p b || (p c || list_any p rest)) h).1).1).1
-    by_mark false = h
-
 pub plain_text : (text : List ℕ) → list_any is_feed text ≡ false → list_any is_return text ≡ false → list_any is_quote (strip_bom text) ≡ false → IsPlain (strip_bom text)
-plain_text text f r q = record { no_feed = without_mark is_feed text f; no_return = without_mark is_return text r; no_quote = q }
+plain_text text f r q = record { no_feed = mark_gone is_feed text f; no_return = mark_gone is_return text r; no_quote = q }
 
 pub fields_plain : (text unmarked : List ℕ) → unmarked ≡ strip_bom text → IsLineText text → list_any is_quote unmarked ≡ false → (length unmarked == 0) ≡ false → Some (slice_split is_comma unmarked) ≡ fields_in text
 fields_plain text unmarked e h q some =

@@ -1,12 +1,15 @@
 -- No more bytes of a piece are taken than it has.
-use Rattle.std.proofs.Common.{◌≡◌, ℕ, ◌+◌, ◌-◌, ◌≤◌, min, Bool, true, false, ◌&&◌, List, ◌∷◌, ◌++◌, length, refl, ap, arith}
+use Rattle.std.proofs.Common.{◌≡◌, ℕ, ◌+◌, ◌-◌, ◌≤◌, min, Bool, true, false, ◌&&◌, List, ◌∷◌, ◌++◌, length, refl, sym, ◌∙◌, ap, arith, Result, Ok, Err}
 use Rattle.std.specs.Prelude.{nat_lt, nat_le}
 use Rattle.std.specs.List.{list_any, before_first, after_first}
 use Rattle.std.proofs.lemmas.List.{length-append}
 use Rattle.telem_csv.specs.Cutter.{Cutter, line_with, judged, taken_for}
 use Rattle.telem_csv.specs.Fed.{fed_by}
 use Rattle.telem_csv.specs.Lines.{is_feed, is_return, line_text, within, text_of, most_line}
+use Rattle.telem_csv.specs.declared.fed.Fed.{Fed}
 use Rattle.telem_csv.specs.declared.fed.Fed.TheVariants as fed
+use Rattle.telem_csv.specs.declared.fault.TelemWhy.{TelemWhy}
+use Rattle.telem_csv.specs.declared.fault.TelemWhy.TheVariants as why
 use Rattle.telem_csv.proofs.Cuts.{cut_at_feed, no_feed_at_all}
 use Rattle.telem_csv.proofs.Stream.{both, lt_is, le_is}
 
@@ -48,3 +51,24 @@ module _ (c : Cutter) (piece : List ℕ) where
           by_tests true y ex ey fits = rw ex (over_taken 0 ex (omega (arith, fits)))
           by_tests false true ex ey fits = rw (ex, ey) (long_taken ey fits)
           by_tests false false ex ey fits = rw (ex, ey) fits
+
+line_not_more : (r : Result (List ℕ) TelemWhy) → fed_by fed.Line r ≡ fed.More → ⊥
+line_not_more (Ok x) h = cc
+line_not_more (Err why.TooLong) h = cc
+line_not_more (Err why.LongLine) h = cc
+line_not_more (Err why.StrayCr) h = cc
+line_not_more (Err why.NoHeader) h = cc
+line_not_more (Err (why.NoColumn c)) h = cc
+line_not_more (Err (why.TwiceColumn c)) h = cc
+line_not_more (Err (why.Ragged want got)) h = cc
+line_not_more (Err (why.Field c e)) h = cc
+line_not_more (Err (why.NoInput i)) h = cc
+line_not_more (Err why.Memory) h = cc
+
+-- where the line goes on the whole piece was taken
+pub more_takes_all : (c : Cutter) (piece : List ℕ) (answer : Fed) (taken : ℕ) → answer ≡ judged c (line_with c piece) → taken ≡ taken_for answer c (length (before_first is_feed piece)) → answer ≡ fed.More → taken ≡ length piece
+more_takes_all c piece answer taken a t m = by_feed (list_any is_feed piece) refl
+  where
+    by_feed : (b : Bool) → list_any is_feed piece ≡ b → taken ≡ length piece
+    by_feed true e = absurd (line_not_more (line_text c.room c.number (record { bytes = c.bytes ++ before_first is_feed piece; is_ended = true })) (let j = rw e at (sym a ∙ m) in j))
+    by_feed false e = t ∙ (ap (λ f. taken_for f c (length (before_first is_feed piece))) m ∙ ap length (no_feed_at_all piece e))

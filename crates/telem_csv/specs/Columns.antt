@@ -1,5 +1,5 @@
 -- The header of a telemetry file: the place of each column.
-use Rattle.std.specs.Prelude.{ℕ, ◌+◌, Bool, true, false, if◌then◌else◌, List, [], ◌∷◌, length, bytes_eq, Result, Ok, Err}
+use Rattle.std.specs.Prelude.{◌≡◌, ◌<◌, ◌≤◌, ℕ, ◌+◌, All, Bool, true, false, if◌then◌else◌, List, [], ◌∷◌, length, bytes_eq, Result, Ok, Err}
 use Rattle.dec_text.specs.Steps.{◌>>=◌, each_from}
 use Rattle.dec_text.specs.Reading.{without_gaps}
 use Rattle.telem_csv.specs.declared.fault.Col.{Col}
@@ -44,3 +44,14 @@ columns_of inputs outputs fields = do
   ins ← places_of true fields inputs
   outs ← places_of false fields outputs
   Ok (record { width = length fields; inputs = ins; outputs = outs })
+
+-- the limits of columns: each stands in the row
+pub record IsColumns (c : Columns) : Type 0 where
+  pub inputs_within : All (λ place. place < c.width) c.inputs
+  pub outputs_within : All (λ place. place < c.width) c.outputs
+  pub few_inputs : length c.inputs ≤ 4
+  pub few_outputs : length c.outputs ≤ 6
+
+-- as many columns as names
+abbrev pub AreFor : List (List ℕ) → List (List ℕ) → Columns → Type 0
+AreFor inputs outputs c = (length c.inputs ≡ length inputs) × (length c.outputs ≡ length outputs)

@@ -3,7 +3,7 @@ use Rattle.std.specs.Prelude.{◌≡◌, ◌≤◌, ℕ, ◌+◌, ◌-◌, ◌^�
 use Rattle.std.specs.List.{list_any, before_first}
 use Rattle.telem_csv.specs.Columns.{Columns}
 use Rattle.telem_csv.specs.Fed.{is_refusal, cause_of, fed_by}
-use Rattle.telem_csv.specs.Lines.{is_feed, RawLine, raw_lines, text_of, most_line, within, line_text}
+use Rattle.telem_csv.specs.Lines.{is_feed, is_return, RawLine, raw_lines, text_of, most_line, within, line_text}
 use Rattle.telem_csv.specs.Rows.{Rows, no_rows, refused_rows, refused_at, row_of, then_rows, rows_from}
 use Rattle.telem_csv.specs.Telemetry.{Telemetry, no_header, header_of, then_header, from_line}
 use Rattle.telem_csv.specs.declared.fault.TelemWhy.TheVariants as why
@@ -22,6 +22,7 @@ pub record IsCutter (c : Cutter) : Type 0 where
   pub counted : 1 ≤ c.number
   pub few_lines : c.number + c.room ≤ 2 ^ 62 + 1
   pub some_line : c.last ≡ fed.Line → 1 ≤ c.room
+  pub line_is_text : c.last ≡ fed.Line → list_any is_return (text_of c.number c.bytes) ≡ false
   pub in_room : length c.bytes ≤ c.room
   pub in_line : length c.bytes ≤ most_line
   pub no_feed : list_any is_feed c.bytes ≡ false

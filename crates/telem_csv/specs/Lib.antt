@@ -5,3 +5,5 @@ pub mod Rows
 pub mod Telemetry
 pub mod Cutter
 pub mod Fields
+pub mod Answers
+pub mod Samples

@@ -2,7 +2,7 @@
 
 ghost use Rattle.std.specs.Prelude.{◌≡◌, ◌≤◌, min, ◌+◌, ◌-◌, ◌^◌, ◌<◌, ℕ, List, length, drop, take, ◌++◌, [], false, true, not, if◌then◌else◌, IfSome, Some, None, IsTrue, MatchOption};
 ghost use Rattle.std.specs.List.{list_any, position, before_first, position_or_len};
-ghost use Rattle.telem_csv.specs.Lines.{is_feed, is_return, most_line, without_return, text_of};
+ghost use Rattle.telem_csv.specs.Lines.{is_feed, is_return, most_line, IsLineText, without_return, text_of};
 ghost use Rattle.telem_csv.specs.Cutter.{Cutter, at_start, current, line_with, judged, taken_for, after_answer, size_refusal, judged_last, feed_answer, feed_taken, after_feed, finish_answer, after_finish, text_at, rows_owed, rows_after, telemetry_owed, telemetry_after};
 ghost use Rattle.telem_csv.specs.Columns.{Columns};
 ghost use Rattle.telem_csv.specs.Fed.{is_refusal};
@@ -62,6 +62,7 @@ impl LineCutter {
     pub fn line(&self) -> &[u8]
         requires { self.now.last ≡ Fed.Line }
         ensures value { result.now ≡ text_at self.now }
+        ensures text { IsLineText result.now }
     {
         text_of(self.number, &self.bytes)
     }
@@ -74,6 +75,9 @@ impl LineCutter {
         ensures taken { result.0 ≡ feed_taken self.old piece.now }
         ensures after { self.new ≡ after_feed self.old piece.now }
         ensures within { result.0 ≤ length piece.now }
+        ensures more { result.1 ≡ Fed.More → result.0 ≡ length piece.now }
+        ensures line { result.1 ≡ Fed.Line → 1 ≤ result.0 }
+        ensures last { self.new.last ≡ result.1 }
 
         // However the stream is cut, it says before the piece what the answer and the rest of the stream say.
         ensures rows { is_refusal self.old.last ≡ false → (head : Columns) (rest : List ℕ) → rows_owed head self.old (piece.now ++ rest) ≡ rows_after head result.1 self.new (drop result.0 piece.now ++ rest) }
@@ -90,6 +94,7 @@ impl LineCutter {
     pub fn finish(&mut self) -> Fed
         ensures answer { result ≡ finish_answer self.old }
         ensures after { self.new ≡ after_finish self.old }
+        ensures last { self.new.last ≡ result }
 
         // The stream says before its end what the answer says.
         ensures rows { is_refusal self.old.last ≡ false → (head : Columns) → rows_owed head self.old [] ≡ rows_after head result self.new [] }
@@ -110,18 +115,7 @@ impl LineCutter {
         if self.bytes.is_empty() {
             Fed::Ended
         } else {
-            self.whole_line()
-        }
-    }
-
-    /// A line without a stray carriage return, or the refusal.
-    fn whole_line(&self) -> Fed
-        ensures { result ≡ (if list_any is_return (text_at self.now) then Fed.StrayCr else Fed.Line) }
-    {
-        if has_return(text_of(self.number, &self.bytes)) {
-            Fed::StrayCr
-        } else {
-            Fed::Line
+            whole_line(self.number, &self.bytes)
         }
     }
 
@@ -162,7 +156,7 @@ impl LineCutter {
             return (taken, refusal);
         }
         self.bytes.try_extend_from_slice(part).unwrap();
-        self.last = self.whole_line();
+        self.last = whole_line(self.number, &self.bytes);
         (part.len() + 1, self.last)
     }
 
@@ -213,6 +207,17 @@ fn text_of(number: u64, bytes: &[u8]) -> &[u8]
 {
     let text = without_return(bytes);
     if number == 1 { strip_bom(text) } else { text }
+}
+
+/// A line without a stray carriage return, or the refusal.
+fn whole_line(number: u64, bytes: &[u8]) -> Fed
+    ensures { result ≡ (if list_any is_return (text_of number bytes.now) then Fed.StrayCr else Fed.Line) }
+{
+    if has_return(text_of(number, bytes)) {
+        Fed::StrayCr
+    } else {
+        Fed::Line
+    }
 }
 
 fn without_return(bytes: &[u8]) -> &[u8]

@@ -1,7 +1,9 @@
 //! What a piece of a stream does to the line that is being cut.
 
-ghost use Rattle.std.specs.Prelude.{◌≡◌};
-ghost use Rattle.telem_csv.specs.Fed.{is_refusal};
+ghost use Rattle.std.specs.Prelude.{◌≡◌, true};
+ghost use Rattle.telem_csv.specs.Fed.{is_refusal, cause_of};
+
+use crate::fault::TelemWhy;
 
 /// What comes of feeding a piece.
 #[derive(Clone, Copy, Debug, PartialEq, Eq)]
@@ -26,5 +28,17 @@ impl Fed {
         ensures { result ≡ is_refusal self }
     {
         matches!(self, Fed::Long | Fed::OverLimit | Fed::StrayCr)
+    }
+
+    /// The cause of a refusal.
+    pub fn cause(self) -> TelemWhy
+        requires { is_refusal self ≡ true }
+        ensures { result ≡ cause_of self }
+    {
+        match self {
+            Fed::OverLimit => TelemWhy::TooLong,
+            Fed::Long => TelemWhy::LongLine,
+            _ => TelemWhy::StrayCr,
+        }
     }
 }

@@ -103,7 +103,7 @@ fn comma_in(text: &[u8]) -> Option<usize>
     text.iter().position(|c| *c == b',')
 }
 
-fn quoted_field(row: &ByteRecord, place: usize) -> &[u8]
+pub(crate) fn quoted_field(row: &ByteRecord, place: usize) -> &[u8]
     requires { place < length (fields_of row.now) }
     ensures { result.now ≡ slice_index_or (fields_of row.now) place [] }
 {

@@ -1,4 +1,4 @@
-use Rattle.std.proofs.Common.{◌+◌, [], arith, ap, ◌∙◌, get_or}
+use Rattle.std.proofs.Common.{[], arith, ap, ◌∙◌, get_or}
 use Rattle.std.specs.List.{slice_split}
 use Rattle.telem_csv.specs.Fields.{is_comma}
 use Rattle.telem_csv.proofs.Parts.{step_parts, part_here}

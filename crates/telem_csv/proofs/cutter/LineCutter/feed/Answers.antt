@@ -1,6 +1,6 @@
 use Rattle.std.proofs.Common.{sym}
 use Rattle.telem_csv.proofs.Owed.{fed_by_steps, rows_of_feed, telemetry_of_feed}
-use Rattle.telem_csv.proofs.Taken.{taken_fits}
+use Rattle.telem_csv.proofs.Taken.{taken_fits, more_takes_all}
 use Rattle.telem_csv.proofs.cutter.LineCutter.feed.Goals as goal
 
 pub returns-clause-rows : goal.returns-clause-rows
@@ -15,3 +15,6 @@ returns-clause-telemetry c goes =
 
 pub returns-clause-within : goal.returns-clause-within
 returns-clause-within c = rw (c.add.ensures.taken, c.add.ensures.answer) (taken_fits c.go_on.new.self c.args.piece.now)
+
+pub returns-clause-more : goal.returns-clause-more
+returns-clause-more c = more_takes_all c.go_on.new.self c.args.piece.now c.add.result.1 c.add.result.0 c.add.ensures.answer c.add.ensures.taken
