@@ -3,7 +3,7 @@
 ghost use Rattle.std.specs.Prelude.{◌≡◌, ◌≤◌, min, ◌+◌, ◌-◌, ◌^◌, ◌<◌, ℕ, List, length, drop, take, ◌++◌, [], false, true, not, if◌then◌else◌, IfSome, Some, None, IsTrue, MatchOption};
 ghost use Rattle.std.specs.List.{list_any, position, before_first, position_or_len};
 ghost use Rattle.telem_csv.specs.Lines.{is_feed, is_return, most_line, IsLineText, without_return, text_of};
-ghost use Rattle.telem_csv.specs.Cutter.{Cutter, at_start, current, line_with, judged, taken_for, after_answer, size_refusal, judged_last, feed_answer, feed_taken, after_feed, finish_answer, after_finish, text_at, rows_owed, rows_after, telemetry_owed, telemetry_after};
+ghost use Rattle.telem_csv.specs.Cutter.{Cutter, IsCutter, at_start, current, line_with, judged, taken_for, after_answer, size_refusal, judged_last, feed_answer, feed_taken, after_feed, finish_answer, after_finish, text_at, rows_owed, rows_after, telemetry_owed, telemetry_after};
 ghost use Rattle.telem_csv.specs.Columns.{Columns};
 ghost use Rattle.telem_csv.specs.Fed.{is_refusal};
 ghost use Rattle.telem_csv.specs.Telemetry.{telemetry};
@@ -78,6 +78,7 @@ impl LineCutter {
         ensures more { result.1 ≡ Fed.More → result.0 ≡ length piece.now }
         ensures line { result.1 ≡ Fed.Line → 1 ≤ result.0 }
         ensures last { self.new.last ≡ result.1 }
+        ensures keeps { IsCutter self.new }
 
         // However the stream is cut, it says before the piece what the answer and the rest of the stream say.
         ensures rows { is_refusal self.old.last ≡ false → (head : Columns) (rest : List ℕ) → rows_owed head self.old (piece.now ++ rest) ≡ rows_after head result.1 self.new (drop result.0 piece.now ++ rest) }
@@ -95,6 +96,7 @@ impl LineCutter {
         ensures answer { result ≡ finish_answer self.old }
         ensures after { self.new ≡ after_finish self.old }
         ensures last { self.new.last ≡ result }
+        ensures keeps { IsCutter self.new }
 
         // The stream says before its end what the answer says.
         ensures rows { is_refusal self.old.last ≡ false → (head : Columns) → rows_owed head self.old [] ≡ rows_after head result self.new [] }
@@ -136,6 +138,7 @@ impl LineCutter {
         ensures answer { result.1 ≡ judged self.old (line_with self.old piece.now) }
         ensures taken { result.0 ≡ taken_for result.1 self.old (length (before_first is_feed piece.now)) }
         ensures after { self.new ≡ after_answer result.1 self.old (line_with self.old piece.now).bytes }
+        ensures keeps { IsCutter self.new }
     {
         match end_of_line(piece) {
             Some(at) => self.end_line(&piece[..at]),
@@ -149,6 +152,7 @@ impl LineCutter {
         ensures answer { result.1 ≡ judged self.old (record { bytes = self.old.bytes ++ part.now; is_ended = true }) }
         ensures taken { result.0 ≡ taken_for result.1 self.old (length part.now) }
         ensures after { self.new ≡ after_answer result.1 self.old (self.old.bytes ++ part.now) }
+        ensures keeps { IsCutter self.new }
     {
         if let Some(refusal) = self.refusal_with(part, 1) {
             let taken = self.left() + 1;
@@ -166,6 +170,7 @@ impl LineCutter {
         ensures answer { result.1 ≡ judged self.old (record { bytes = self.old.bytes ++ part.now; is_ended = false }) }
         ensures taken { result.0 ≡ taken_for result.1 self.old (length part.now) }
         ensures after { self.new ≡ after_answer result.1 self.old (self.old.bytes ++ part.now) }
+        ensures keeps { IsCutter self.new }
     {
         if let Some(refusal) = self.refusal_with(part, 0) {
             let taken = self.left() + 1;

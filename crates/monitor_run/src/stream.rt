@@ -1,0 +1,162 @@
+//! The telemetry as a stream of lines, read from its slot in pieces.
+ghost use Rattle.std.specs.Prelude.{◌≡◌, ◌≢◌, ℕ, ◌+◌, ◌<◌, ◌≤◌, List, [], ◌++◌, length, take, drop, false, true, IsTrue, IfOk, IfErr, OnErr, Some, None, slice_range};
+ghost use Rattle.outside_io.specs.Causes.{Rose};
+ghost use Rattle.outside_io.specs.Shelf.{KeepsOthers};
+ghost use Rattle.telem_csv.specs.Columns.{Columns};
+ghost use Rattle.telem_csv.specs.Cutter.{at_start, current, rows_owed, rows_after, telemetry_owed, telemetry_after, feed_answer, after_feed, after_finish};
+ghost use Rattle.telem_csv.specs.Fed.{is_refusal, cause_of};
+ghost use Rattle.telem_csv.specs.Rows.{refused_at};
+ghost use Rattle.monitor_run.specs.Stream.{BothTold, TellsLine, TellsEnd, TellsRefusal, ReadsOn};
+
+use outside_io::{GetFault, Shelf};
+use telem_csv::{Fed, LineCutter, TelemFault, TelemWhy};
+
+/// The slot of the telemetry.
+const SLOT: usize = 1;
+
+/// How many bytes are read at a time.
+const PIECE: usize = 4096;
+
+/// Why no line came.
+#[derive(Clone, Copy)]
+pub enum StreamFault {
+    /// The line is refused.
+    Refused(TelemFault),
+    /// The slot can't be read.
+    Read,
+    /// Memory ran out.
+    Memory,
+}
+
+/// A telemetry that is read on: the line at hand, and what was read of the next ones.
+#[derive(Drop)]
+pub struct Stream {
+    pub cutter: LineCutter,
+    pub piece: [u8; 4096],
+    pub at: usize,
+    pub end: usize,
+    ghost within: { at ≤ end },
+    ghost short: { end ≤ 4096 },
+}
+
+impl Stream {
+    ghost use Rattle.monitor_run.specs.Left.{left_of};
+
+    /// Before the first byte of a telemetry of at most `limit` bytes.
+    pub fn new(limit: u64) -> Stream
+        requires { limit ≤ 4611686018427387904 }
+        ensures cutter { result.cutter ≡ at_start limit }
+        ensures left { left_of result ≡ [] }
+    {
+        Stream {
+            cutter: LineCutter::new(limit),
+            piece: [0; 4096],
+            at: 0,
+            end: 0,
+        }
+    }
+
+    /// Goes on to the next line, and says whether there is one.
+    pub fn next_line<F: Shelf>(&mut self, shelf: &mut F) -> Result<bool, StreamFault>
+        requires attached { F.attached shelf.old 1 ≡ true }
+        requires going { is_refusal self.old.cutter.last ≡ false }
+        ensures line { IfOk result (λ b. b ≡ true → BothTold (F.rest shelf.old 1) (F.rest shelf.new 1) (λ r r'. TellsLine self.old.cutter (left_of self.old ++ r) self.new.cutter (left_of self.new ++ r'))) }
+        ensures cut { IfOk result (λ b. b ≡ true → self.new.cutter.last ≡ Fed.Line) }
+        ensures fewer { IfOk result (λ b. b ≡ true → (current self.new.cutter).room < (current self.old.cutter).room) }
+        ensures end { IfOk result (λ b. b ≡ false → BothTold (F.rest shelf.old 1) (F.rest shelf.new 1) (λ r r'. TellsEnd self.old.cutter (left_of self.old ++ r) × (r' ≡ []))) }
+        ensures refused { IfErr result (λ e. (fault : TelemFault) → e ≡ StreamFault.Refused fault → BothTold (F.rest shelf.old 1) (F.rest shelf.new 1) (λ r r'. TellsRefusal self.old.cutter (left_of self.old ++ r) fault)) }
+        ensures read { IfErr result (λ e. e ≡ StreamFault.Read → Rose (F.faults shelf.old 1) (F.faults shelf.new 1)) }
+        ensures kept { ReadsOn (F.attached shelf.old) (F.attached shelf.new) (F.asked shelf.old) (F.asked shelf.new) (F.rest shelf.old) (F.rest shelf.new) (F.faults shelf.old) (F.faults shelf.new) }
+        ensures files { (n : List ℕ) → F.file shelf.new n ≡ F.file shelf.old n }
+    {
+        loop {
+            if self.at == self.end && !self.fill(shelf)? {
+                return self.finish();
+            }
+            match self.feed() {
+                Fed::More => {}
+                Fed::Line => return Ok(true),
+                refusal => return Err(self.refused(refusal)),
+            }
+        }
+    }
+
+    /// Reads the next piece, and says whether the slot had more.
+    fn fill<F: Shelf>(&mut self, shelf: &mut F) -> Result<bool, StreamFault>
+        requires attached { F.attached shelf.old 1 ≡ true }
+        requires used { self.old.at ≡ self.old.end }
+        ensures cutter { self.new.cutter ≡ self.old.cutter }
+        ensures bytes { IfOk result (λ b. BothTold (F.rest shelf.old 1) (F.rest shelf.new 1) (λ r r'. r ≡ left_of self.new ++ r')) }
+        ensures some { IfOk result (λ b. b ≡ true → 0 < length (left_of self.new)) }
+        ensures none { IfOk result (λ b. b ≡ false → (left_of self.new ≡ []) × BothTold (F.rest shelf.old 1) (F.rest shelf.new 1) (λ r r'. r' ≡ [])) }
+        ensures read { IfErr result (λ e. e ≡ StreamFault.Read → Rose (F.faults shelf.old 1) (F.faults shelf.new 1)) }
+        ensures not_refused { IfErr result (λ e. (fault : TelemFault) → e ≢ StreamFault.Refused fault) }
+        ensures kept { ReadsOn (F.attached shelf.old) (F.attached shelf.new) (F.asked shelf.old) (F.asked shelf.new) (F.rest shelf.old) (F.rest shelf.new) (F.faults shelf.old) (F.faults shelf.new) }
+        ensures files { (n : List ℕ) → F.file shelf.new n ≡ F.file shelf.old n }
+    {
+        match shelf.next(SLOT, &mut self.piece) {
+            Ok(count) => {
+                self.at = 0;
+                self.end = count;
+                Ok(count > 0)
+            }
+            Err(GetFault::Failed) => Err(StreamFault::Read),
+            Err(GetFault::Memory) => Err(StreamFault::Memory),
+        }
+    }
+
+    /// Gives the cutter what was read.
+    fn feed(&mut self) -> Fed
+        requires { is_refusal self.old.cutter.last ≡ false }
+        ensures rows { (head : Columns) (rest : List ℕ) → rows_owed head self.old.cutter (left_of self.old ++ rest) ≡ rows_after head result self.new.cutter (left_of self.new ++ rest) }
+        ensures telemetry { (inputs outputs : List (List ℕ)) (rest : List ℕ) → telemetry_owed inputs outputs self.old.cutter (left_of self.old ++ rest) ≡ telemetry_after inputs outputs result self.new.cutter (left_of self.new ++ rest) }
+        ensures answer { result ≡ feed_answer self.old.cutter (left_of self.old) }
+        ensures after { self.new.cutter ≡ after_feed self.old.cutter (left_of self.old) }
+        ensures used { result ≡ Fed.More → self.new.at ≡ self.new.end }
+        ensures last { self.new.cutter.last ≡ result }
+    {
+        let piece: &[u8] = &self.piece;
+        let (taken, answer) = self.cutter.feed(&piece[self.at..self.end]);
+        self.at += taken;
+        answer
+    }
+
+    /// The line behind the last line feed, if there is one.
+    fn finish(&mut self) -> Result<bool, StreamFault>
+        requires { is_refusal self.old.cutter.last ≡ false }
+        ensures rows { (head : Columns) → rows_owed head self.old.cutter [] ≡ rows_after head self.new.cutter.last self.new.cutter [] }
+        ensures telemetry { (inputs outputs : List (List ℕ)) → telemetry_owed inputs outputs self.old.cutter [] ≡ telemetry_after inputs outputs self.new.cutter.last self.new.cutter [] }
+        ensures after { self.new.cutter ≡ after_finish self.old.cutter }
+        ensures left { left_of self.new ≡ left_of self.old }
+        ensures line { IfOk result (λ b. b ≡ true → self.new.cutter.last ≡ Fed.Line) }
+        ensures end { IfOk result (λ b. b ≡ false → self.new.cutter.last ≡ Fed.Ended) }
+        ensures refused { IfErr result (λ e. e ≡ StreamFault.Refused (refused_at self.new.cutter.number (cause_of self.new.cutter.last)) × (is_refusal self.new.cutter.last ≡ true)) }
+    {
+        match self.cutter.finish() {
+            Fed::Line => Ok(true),
+            Fed::Ended => Ok(false),
+            refusal => Err(self.refused(refusal)),
+        }
+    }
+
+    /// The refusal of the line at hand.
+    fn refused(&self, refusal: Fed) -> StreamFault
+        ensures { result ≡ StreamFault.Refused (refused_at self.now.cutter.number (cause_of refusal)) }
+    {
+        StreamFault::Refused(TelemFault {
+            line: self.cutter.number(),
+            why: cause_of(refusal),
+        })
+    }
+}
+
+/// The cause of a refused line.
+fn cause_of(refusal: Fed) -> TelemWhy
+    ensures { result ≡ cause_of refusal }
+{
+    match refusal {
+        Fed::OverLimit => TelemWhy::TooLong,
+        Fed::Long => TelemWhy::LongLine,
+        _ => TelemWhy::StrayCr,
+    }
+}
