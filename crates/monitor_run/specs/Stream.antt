@@ -1,8 +1,9 @@
 -- A stream of telemetry lines, and what it has still to tell.
 use Rattle.outside_io.specs.Shelf.{KeepsOthers}
-use Rattle.std.specs.Prelude.{◌≡◌, ℕ, ◌≤◌, Bool, List, [], ◌++◌, Option, Some, None}
+use Rattle.std.specs.Prelude.{◌≡◌, ℕ, ◌<◌, ◌≤◌, length, Bool, List, [], ◌∷◌, ◌++◌, Option, Some, None}
+use Rattle.plant_model.specs.Plant.{Sample}
 use Rattle.telem_csv.specs.Columns.{Columns}
-use Rattle.telem_csv.specs.Cutter.{Cutter, text_at, rows_owed, telemetry_owed}
+use Rattle.telem_csv.specs.Cutter.{Cutter, current, text_at, rows_owed, telemetry_owed}
 use Rattle.telem_csv.specs.Rows.{Rows, no_rows, refused_rows, row_of, then_rows, refused_at}
 use Rattle.telem_csv.specs.Telemetry.{Telemetry, no_header, header_of, then_header}
 use Rattle.telem_csv.specs.declared.fault.TelemFault.{TelemFault}
@@ -36,3 +37,18 @@ pub record ReadsOn (attached attached' : ℕ → Bool) (asked asked' : ℕ → O
   pub same_asked : asked' 1 ≡ asked 1
   pub later : faults 1 ≤ faults' 1
   pub others : KeepsOthers 1 attached attached' asked asked' rest rest' faults faults'
+
+-- a line that goes on grows by the piece
+pub record GoesOn (c new : Cutter) (piece : List ℕ) : Type 0 where
+  pub room : (current new).room ≡ (current c).room
+  pub longer : 0 < length piece → length (current c).bytes < length (current new).bytes
+  pub short : length (current new).bytes ≤ 4096
+
+-- it tells what it did
+pub record TellsSame (old : Cutter) (unread : List ℕ) (new : Cutter) (unread' : List ℕ) : Type 0 where
+  pub rows : (head : Columns) → rows_owed head old unread ≡ rows_owed head new unread'
+  pub header : (inputs outputs : List (List ℕ)) → telemetry_owed inputs outputs old unread ≡ telemetry_owed inputs outputs new unread'
+
+-- a sample in front of rows
+abbrev pub with_sample : Sample → Rows → Rows
+with_sample s rows = record { samples = s ∷ rows.samples; refusal = rows.refusal }

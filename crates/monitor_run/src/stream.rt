@@ -3,10 +3,10 @@ ghost use Rattle.std.specs.Prelude.{◌≡◌, ◌≢◌, ℕ, ◌+◌, ◌<◌,
 ghost use Rattle.outside_io.specs.Causes.{Rose};
 ghost use Rattle.outside_io.specs.Shelf.{KeepsOthers};
 ghost use Rattle.telem_csv.specs.Columns.{Columns};
-ghost use Rattle.telem_csv.specs.Cutter.{at_start, current, rows_owed, rows_after, telemetry_owed, telemetry_after, feed_answer, after_feed, after_finish};
+ghost use Rattle.telem_csv.specs.Cutter.{at_start, current, rows_owed, rows_after, telemetry_owed, telemetry_after};
 ghost use Rattle.telem_csv.specs.Fed.{is_refusal, cause_of};
 ghost use Rattle.telem_csv.specs.Rows.{refused_at};
-ghost use Rattle.monitor_run.specs.Stream.{BothTold, TellsLine, TellsEnd, TellsRefusal, ReadsOn};
+ghost use Rattle.monitor_run.specs.Stream.{BothTold, GoesOn, TellsLine, TellsEnd, TellsRefusal, ReadsOn};
 
 use outside_io::{GetFault, Shelf};
 use telem_csv::{Fed, LineCutter, TelemFault, TelemWhy};
@@ -70,7 +70,7 @@ impl Stream {
         ensures files { (n : List ℕ) → F.file shelf.new n ≡ F.file shelf.old n }
     {
         loop {
-            if self.at == self.end && !self.fill(shelf)? {
+            if !self.has_bytes(shelf)? {
                 return self.finish();
             }
             match self.feed() {
@@ -79,6 +79,24 @@ impl Stream {
                 refusal => return Err(self.refused(refusal)),
             }
         }
+    }
+
+    /// Reads the next piece where nothing of the last one is left, and says whether there is something.
+    fn has_bytes<F: Shelf>(&mut self, shelf: &mut F) -> Result<bool, StreamFault>
+        requires { F.attached shelf.old 1 ≡ true }
+        ensures cutter { self.new.cutter ≡ self.old.cutter }
+        ensures bytes { IfOk result (λ b. BothTold (F.rest shelf.old 1) (F.rest shelf.new 1) (λ r r'. left_of self.old ++ r ≡ left_of self.new ++ r')) }
+        ensures some { IfOk result (λ b. b ≡ true → 0 < length (left_of self.new)) }
+        ensures none { IfOk result (λ b. b ≡ false → BothTold (F.rest shelf.old 1) (F.rest shelf.new 1) (λ r r'. (left_of self.new ++ r' ≡ []) × (r' ≡ []))) }
+        ensures read { IfErr result (λ e. e ≡ StreamFault.Read → Rose (F.faults shelf.old 1) (F.faults shelf.new 1)) }
+        ensures not_refused { IfErr result (λ e. (fault : TelemFault) → e ≢ StreamFault.Refused fault) }
+        ensures kept { ReadsOn (F.attached shelf.old) (F.attached shelf.new) (F.asked shelf.old) (F.asked shelf.new) (F.rest shelf.old) (F.rest shelf.new) (F.faults shelf.old) (F.faults shelf.new) }
+        ensures files { (n : List ℕ) → F.file shelf.new n ≡ F.file shelf.old n }
+    {
+        if self.at < self.end {
+            return Ok(true);
+        }
+        self.fill(shelf)
     }
 
     /// Reads the next piece, and says whether the slot had more.
@@ -110,9 +128,10 @@ impl Stream {
         requires { is_refusal self.old.cutter.last ≡ false }
         ensures rows { (head : Columns) (rest : List ℕ) → rows_owed head self.old.cutter (left_of self.old ++ rest) ≡ rows_after head result self.new.cutter (left_of self.new ++ rest) }
         ensures telemetry { (inputs outputs : List (List ℕ)) (rest : List ℕ) → telemetry_owed inputs outputs self.old.cutter (left_of self.old ++ rest) ≡ telemetry_after inputs outputs result self.new.cutter (left_of self.new ++ rest) }
-        ensures answer { result ≡ feed_answer self.old.cutter (left_of self.old) }
-        ensures after { self.new.cutter ≡ after_feed self.old.cutter (left_of self.old) }
+        ensures line { result ≡ Fed.Line → (current self.new.cutter).room < (current self.old.cutter).room }
+        ensures more { result ≡ Fed.More → GoesOn self.old.cutter self.new.cutter (left_of self.old) }
         ensures used { result ≡ Fed.More → self.new.at ≡ self.new.end }
+        ensures not_ended { result ≢ Fed.Ended }
         ensures last { self.new.cutter.last ≡ result }
     {
         let piece: &[u8] = &self.piece;
@@ -126,7 +145,7 @@ impl Stream {
         requires { is_refusal self.old.cutter.last ≡ false }
         ensures rows { (head : Columns) → rows_owed head self.old.cutter [] ≡ rows_after head self.new.cutter.last self.new.cutter [] }
         ensures telemetry { (inputs outputs : List (List ℕ)) → telemetry_owed inputs outputs self.old.cutter [] ≡ telemetry_after inputs outputs self.new.cutter.last self.new.cutter [] }
-        ensures after { self.new.cutter ≡ after_finish self.old.cutter }
+        ensures fewer { self.new.cutter.last ≡ Fed.Line → (current self.new.cutter).room < (current self.old.cutter).room }
         ensures left { left_of self.new ≡ left_of self.old }
         ensures line { IfOk result (λ b. b ≡ true → self.new.cutter.last ≡ Fed.Line) }
         ensures end { IfOk result (λ b. b ≡ false → self.new.cutter.last ≡ Fed.Ended) }
@@ -137,6 +156,20 @@ impl Stream {
             Fed::Ended => Ok(false),
             refusal => Err(self.refused(refusal)),
         }
+    }
+
+    /// The refusal of the header or the row at hand for this cause.
+    pub fn row_refused(&self, why: TelemWhy) -> StreamFault
+        ensures memory { why ≡ TelemWhy.Memory → result ≡ StreamFault.Memory }
+        ensures refused { why ≢ TelemWhy.Memory → result ≡ StreamFault.Refused (refused_at self.now.cutter.number why) }
+    {
+        if why == TelemWhy::Memory {
+            return StreamFault::Memory;
+        }
+        StreamFault::Refused(TelemFault {
+            line: self.cutter.number(),
+            why,
+        })
     }
 
     /// The refusal of the line at hand.

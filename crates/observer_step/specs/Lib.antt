@@ -1,4 +1,5 @@
 pub mod Predicted
 pub mod Estimate
 pub mod Answers
+pub mod Seen
 pub mod Laws

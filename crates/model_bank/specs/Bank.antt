@@ -1,0 +1,47 @@
+-- A bank, and the list of samples that it stands for.
+use Rattle.std.specs.Prelude.{◌≡◌, ℕ, zero, suc, ◌-◌, true, Bool, List, [], ◌∷◌, length, map, All, ℤ}
+use Rattle.set_rules.specs.Zono.{Zono}
+use Rattle.plant_model.specs.Plant.{Plant, Sample, sample_at}
+use Rattle.observer_step.specs.Predicted.{first_set}
+use Rattle.observer_step.specs.Estimate.{Estimate, corrected_set}
+use Rattle.observer_step.specs.Answers.{is_live}
+use Rattle.model_file.specs.Bank.{Models}
+
+-- one model of a bank
+pub record Member : Type 0 where
+  pub plant : Plant
+  pub estimate : Estimate
+  pub live : Bool
+
+-- the counts of inputs and outputs of all models, the models, how many samples were taken, and the inputs of the last of them
+pub record Bank : Type 0 where
+  pub inputs : ℕ
+  pub outputs : ℕ
+  pub members : List Member
+  pub count : ℕ
+  pub last_inputs : List ℤ
+
+-- the set of a model after these samples: where it starts, or corrected by the last of them
+abbrev pub set_after : Plant → List Sample → ℕ → Zono
+set_after p samples zero = first_set p
+set_after p samples (suc k) = corrected_set p samples k
+
+-- a member stands for these samples: it is live where no certificate was due, and then its estimate is that of the samples
+pub record MemberStands (samples : List Sample) (m : Member) : Type 0 where
+  pub live : m.live ≡ is_live m.plant samples (length samples)
+  pub set : m.live ≡ true → m.estimate.plain ≡ set_after m.plant samples (length samples)
+
+-- a bank of these plants stands for these samples
+pub record BankStands (plants : List Plant) (samples : List Sample) (bank : Bank) : Type 0 where
+  pub plants_are : map (λ (m : Member). m.plant) bank.members ≡ plants
+  pub count_is : bank.count ≡ length samples
+  pub inputs_are : bank.last_inputs ≡ (sample_at samples (length samples - 1)).inputs
+  pub members_stand : All (MemberStands samples) bank.members
+
+-- the plants of a model file, in order
+abbrev pub plants_in : Models → List Plant
+plants_in m = map (λ n. n.plant) m.models
+
+-- and the names
+abbrev pub names_in : Models → List (List ℕ)
+names_in m = map (λ n. n.name) m.models

@@ -1,0 +1,50 @@
+//! What a sample makes of the models of a bank.
+ghost use Rattle.std.specs.Prelude.{◌≡◌, true};
+ghost use Rattle.std.specs.List.{list_all};
+ghost use Rattle.observer_step.specs.Seen.{is_printable_interval};
+
+use arrayvec::ArrayVec;
+use isolate_core::Verdict;
+use observer_step::{Kept, Outcome};
+
+/// What a sample makes of one model that was live before it.
+#[derive(Drop)]
+pub struct ModelRec {
+    /// The model.
+    pub index: u32,
+    /// The predicted interval of each output, in nano-units, each end within `10^24`.
+    pub preds: ArrayVec<(i128, i128), 6>,
+    /// How the model's set came to the sample; `Imaged` at the first.
+    pub kept: Kept,
+    /// What the sample says of the model.
+    pub outcome: Outcome,
+    /// The hull of each state, in nano-units, each end within `10^24`; none where the model is excluded.
+    pub hulls: ArrayVec<(i128, i128), 8>,
+    ghost printable_preds: { list_all is_printable_interval preds.items ≡ true },
+    ghost printable_hulls: { list_all is_printable_interval hulls.items ≡ true },
+}
+
+impl Default for ModelRec {
+    fn default() -> Self {
+        ModelRec {
+            index: 0,
+            preds: ArrayVec::new(),
+            kept: Kept::Imaged,
+            outcome: Outcome::Fits,
+            hulls: ArrayVec::new(),
+        }
+    }
+}
+
+/// What a sample makes of all models.
+#[derive(Drop)]
+pub struct SampleRec {
+    /// The sample's number, from 0.
+    pub k: u64,
+    /// The models that were live before the sample, by index.
+    pub models: ArrayVec<ModelRec, 16>,
+    /// Whether each model of the file is still possible.
+    pub possible: ArrayVec<bool, 16>,
+    /// The verdict on the models that are possible.
+    pub verdict: Verdict,
+}

@@ -1,0 +1,21 @@
+//! What a sample makes of one model.
+
+use farkas_check::Cert;
+
+/// How the set of a model came to a sample.
+#[derive(Clone, Copy, Debug, PartialEq, Eq)]
+pub enum Kept {
+    /// As the image of the set before.
+    Imaged,
+    /// As the state box, since the image left the range.
+    Widened,
+}
+
+/// What a sample says of a model.
+#[derive(Clone, Copy, Debug)]
+pub enum Outcome {
+    /// Nothing shows that the model has no trajectory.
+    Fits,
+    /// The model has no trajectory, by this certificate.
+    Excluded(Cert),
+}
