@@ -4,7 +4,7 @@ use Rattle.set_rules.specs.Zono.{Zono}
 use Rattle.plant_model.specs.Plant.{Plant, Sample, sample_at}
 use Rattle.observer_step.specs.Predicted.{first_set}
 use Rattle.observer_step.specs.Estimate.{Estimate, corrected_set}
-use Rattle.observer_step.specs.Answers.{is_live}
+use Rattle.observer_step.specs.Answers.{zonotope_observer, is_live}
 use Rattle.model_file.specs.Bank.{Models}
 
 -- one model of a bank
@@ -28,7 +28,7 @@ set_after p samples (suc k) = corrected_set p samples k
 
 -- a member stands for these samples: it is live where no certificate was due, and then its estimate is that of the samples
 pub record MemberStands (samples : List Sample) (m : Member) : Type 0 where
-  pub live : m.live ≡ is_live m.plant samples (length samples)
+  pub live : m.live ≡ is_live zonotope_observer m.plant samples (length samples)
   pub set : m.live ≡ true → m.estimate.plain ≡ set_after m.plant samples (length samples)
 
 -- a bank of these plants stands for these samples

@@ -1,6 +1,7 @@
 -- What the definitions say of one model at a sample.
 use Rattle.std.specs.Prelude.{ℕ, zero, suc, ℤ, Bool, true, ◌&&◌, is_none, is_some, List, [], Option, option_map, if◌then◌else◌}
 use Rattle.farkas_check.specs.Certificate.{Certificate, by_out}
+use Rattle.set_rules.specs.Zono.{Zono}
 use Rattle.plant_model.specs.Plant.{Plant, Sample, sample_at}
 use Rattle.observer_step.specs.Predicted.{predicted_outs, hulls, due}
 use Rattle.observer_step.specs.Estimate.{predicted_set, corrected_set, is_widened}
@@ -12,20 +13,30 @@ pub record Answer : Type 0 where
   pub certificate : Option Certificate
   pub hulls : List (ℤ × ℤ)
 
+-- the rules by which a set follows a plant through its telemetry: the predicted and the corrected set at a sample, and whether the plant was widened there
+pub record Observer : Type 0 where
+  pub predicted : Plant → List Sample → ℕ → Zono
+  pub corrected : Plant → List Sample → ℕ → Zono
+  pub widened : Plant → List Sample → ℕ → Bool
+
+-- the zonotope that is predicted and corrected
+abbrev pub zonotope_observer : Observer
+zonotope_observer = record { predicted = predicted_set; corrected = corrected_set; widened = is_widened }
+
 -- the certificate that is due at sample k
-abbrev pub certificate_at : Plant → List Sample → ℕ → Option Certificate
-certificate_at p samples k = option_map by_out (due p (sample_at samples k) (predicted_set p samples k))
+abbrev pub certificate_at : Observer → Plant → List Sample → ℕ → Option Certificate
+certificate_at o p samples k = option_map by_out (due p (sample_at samples k) (o.predicted p samples k))
 
 -- the answer on a model that is live before sample k
-abbrev pub answer_at : Plant → List Sample → ℕ → Answer
-answer_at p samples k = record {
-  predicted = predicted_outs p (sample_at samples k).inputs (predicted_set p samples k);
-  is_widened = is_widened p samples k;
-  certificate = certificate_at p samples k;
-  hulls = if is_none (certificate_at p samples k) then hulls p (corrected_set p samples k) else [];
+abbrev pub answer_at : Observer → Plant → List Sample → ℕ → Answer
+answer_at o p samples k = record {
+  predicted = predicted_outs p (sample_at samples k).inputs (o.predicted p samples k);
+  is_widened = o.widened p samples k;
+  certificate = certificate_at o p samples k;
+  hulls = if is_none (certificate_at o p samples k) then hulls p (o.corrected p samples k) else [];
 }
 
 -- no certificate was due before sample k
-unfoldable pub is_live : Plant → List Sample → ℕ → Bool
-is_live p samples zero = true
-is_live p samples (suc k) = is_live p samples k && is_none (certificate_at p samples k)
+unfoldable pub is_live : Observer → Plant → List Sample → ℕ → Bool
+is_live o p samples zero = true
+is_live o p samples (suc k) = is_live o p samples k && is_none (certificate_at o p samples k)

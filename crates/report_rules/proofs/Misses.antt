@@ -8,15 +8,14 @@ use Rattle.farkas_check.specs.Certificate.{Certificate, by_out}
 use Rattle.isolate_core.specs.Verdict.{possible_models}
 use Rattle.plant_model.specs.Plant.{Plant, Sample, sample_at, reading_at}
 use Rattle.observer_step.specs.Predicted.{hulls, due, out_of, predicted_outs, reading_misses}
-use Rattle.observer_step.specs.Estimate.{predicted_set, corrected_set, is_widened}
-use Rattle.observer_step.specs.Answers.{Answer, answer_at, certificate_at, is_live}
+use Rattle.observer_step.specs.Answers.{Answer, Observer, answer_at, certificate_at, is_live}
 use Rattle.model_bank.specs.Answers.{ModelAnswer, answer_if, answers_from, sample_answer}
 use Rattle.report_text.specs.Line.{Line, title, model, sample, pred, exclude, hull, status, possible, verdict, end}
 use Rattle.report_rules.specs.Lines.{head_lines, pred_lines, hull_lines, outcome_lines, model_lines, sample_lines, samples_lines, last_lines}
 use Rattle.report_rules.specs.Claims.{MissesTold, first_missed}
 use Rattle.report_rules.specs.Report.{report}
 
-module _ (samples : List Sample) where
+module _ (obs : Observer) (samples : List Sample) where
   -- nothing is left to be told
   abbrev Told : ℕ → List Line → Type 0
   Told k lines = MissesTold samples k None lines
@@ -31,7 +30,7 @@ module _ (samples : List Sample) where
     s = sample_at samples k
 
     abbrev ends : ℕ → ℤ × ℤ
-    ends = out_of p s.inputs (predicted_set p samples k)
+    ends = out_of p s.inputs (obs.predicted p samples k)
 
     abbrev test : ℕ → Bool
     test o = reading_misses (ends o) (reading_at s o)
@@ -64,21 +63,21 @@ module _ (samples : List Sample) where
         (ap (λ n. of_model (first_below n test)) next ∙ sym (next-missed m e (is 0 e (omega arith) ∙ ap ends first))) more
 
     abbrev answer : Answer
-    answer = answer_at p samples k
+    answer = answer_at obs p samples k
 
-    past-outcome : (ys : List Line) → Told k ys → MissesTold samples k (of_model (due p s (predicted_set p samples k))) (outcome_lines i (certificate_at p samples k) answer.hulls answer.is_widened ++ ys)
-    past-outcome ys h = by (due p s (predicted_set p samples k))
+    past-outcome : (ys : List Line) → Told k ys → MissesTold samples k (of_model (due p s (obs.predicted p samples k))) (outcome_lines i (certificate_at obs p samples k) answer.hulls answer.is_widened ++ ys)
+    past-outcome ys h = by (due p s (obs.predicted p samples k))
       where
-        by : (o : Option ℕ) → MissesTold samples k (of_model o) (outcome_lines i (option_map by_out o) (if is_none (option_map by_out o) then hulls p (corrected_set p samples k) else []) answer.is_widened ++ ys)
+        by : (o : Option ℕ) → MissesTold samples k (of_model o) (outcome_lines i (option_map by_out o) (if is_none (option_map by_out o) then hulls p (obs.corrected p samples k) else []) answer.is_widened ++ ys)
         by (Some o) = (refl, h)
         by None =
-            subst (λ t. Told k t) (sym (append_assoc (hull_lines i (hulls p (corrected_set p samples k))) (status i (not answer.is_widened) ∷ []) ys))
-            (past-hulls k i 0 (hulls p (corrected_set p samples k)) (status i (not answer.is_widened) ∷ ys) h)
+            subst (λ t. Told k t) (sym (append_assoc (hull_lines i (hulls p (obs.corrected p samples k))) (status i (not answer.is_widened) ∷ []) ys))
+            (past-hulls k i 0 (hulls p (obs.corrected p samples k)) (status i (not answer.is_widened) ∷ ys) h)
 
     past-model : (ys : List Line) → Told k ys → Told k (model_lines (record { index = i; answer = answer }) ++ ys)
     unfolding due first_below
     past-model ys h =
-        let outcome = outcome_lines i (certificate_at p samples k) answer.hulls answer.is_widened in
+        let outcome = outcome_lines i (certificate_at obs p samples k) answer.hulls answer.is_widened in
         let many : length answer.predicted ≡ p.outputs = length-tabulate p.outputs ends in
         let whole : p.outputs ≡ 0 + length answer.predicted = omega arith in
         let told = subst (λ n. MissesTold samples k (of_model (first_below n test)) (outcome ++ ys)) whole (past-outcome ys h) in
@@ -86,32 +85,32 @@ module _ (samples : List Sample) where
         (past-preds 0 answer.predicted (outcome ++ ys)
         (λ x d l. get_or-tabulate p.outputs ends x d (subst (λ m. x < m) many l) ∙ ap ends (omega arith)) told)
 
-  past-models : (k i : ℕ) (ps : List Plant) (ys : List Line) → Told k ys → Told k (flat_map model_lines (answers_from i ps samples k) ++ ys)
+  past-models : (k i : ℕ) (ps : List Plant) (ys : List Line) → Told k ys → Told k (flat_map model_lines (answers_from obs i ps samples k) ++ ys)
   past-models k i [] ys h = h
-  past-models k i (p ∷ ps) ys h = by (past-models k (i + 1) ps ys h) (is_live p samples k)
+  past-models k i (p ∷ ps) ys h = by (past-models k (i + 1) ps ys h) (is_live obs p samples k)
     where
-      by : Told k (flat_map model_lines (answers_from (i + 1) ps samples k) ++ ys) → (b : Bool) → Told k (flat_map model_lines (answer_if b i (answer_at p samples k) (answers_from (i + 1) ps samples k)) ++ ys)
+      by : Told k (flat_map model_lines (answers_from obs (i + 1) ps samples k) ++ ys) → (b : Bool) → Told k (flat_map model_lines (answer_if b i (answer_at obs p samples k) (answers_from obs (i + 1) ps samples k)) ++ ys)
       by others true =
-          let lines = model_lines (record { index = i; answer = answer_at p samples k }) in
-          subst (λ t. Told k t) (sym (append_assoc lines (flat_map model_lines (answers_from (i + 1) ps samples k)) ys))
-          (past-model p k i (flat_map model_lines (answers_from (i + 1) ps samples k) ++ ys) others)
+          let lines = model_lines (record { index = i; answer = answer_at obs p samples k }) in
+          subst (λ t. Told k t) (sym (append_assoc lines (flat_map model_lines (answers_from obs (i + 1) ps samples k)) ys))
+          (past-model p k i (flat_map model_lines (answers_from obs (i + 1) ps samples k) ++ ys) others)
       by others false = others
 
   module _ (ps : List Plant) where
-    past-sample : (k before : ℕ) (ys : List Line) → Told k ys → Told before (sample_lines (sample_answer ps samples k) ++ ys)
+    past-sample : (k before : ℕ) (ys : List Line) → Told k ys → Told before (sample_lines (sample_answer obs ps samples k) ++ ys)
     past-sample k before ys h =
-        let s = sample_answer ps samples k in
+        let s = sample_answer obs ps samples k in
         let models = flat_map model_lines s.models in
         let closing = possible (possible_models s.possible) ∷ verdict s.verdict ∷ [] in
         let closed : Told k (models ++ (closing ++ ys)) = past-models k 0 ps (closing ++ ys) h in
         subst (λ t. Told k t) (sym (append_assoc models closing ys)) closed
 
-    past-samples : (n before : ℕ) (ys : List Line) → ((k : ℕ) → Told k ys) → Told before (samples_lines ps samples n ++ ys)
+    past-samples : (n before : ℕ) (ys : List Line) → ((k : ℕ) → Told k ys) → Told before (samples_lines obs ps samples n ++ ys)
     unfolding samples_lines
     past-samples zero before ys h = h before
     past-samples (suc n) before ys h =
-        subst (λ t. Told before t) (sym (append_assoc (samples_lines ps samples n) (sample_lines (sample_answer ps samples n)) ys))
-        (past-samples n before (sample_lines (sample_answer ps samples n) ++ ys) (λ k. past-sample n k ys (h n)))
+        subst (λ t. Told before t) (sym (append_assoc (samples_lines obs ps samples n) (sample_lines (sample_answer obs ps samples n)) ys))
+        (past-samples n before (sample_lines (sample_answer obs ps samples n) ++ ys) (λ k. past-sample n k ys (h n)))
 
     past-names : (j before : ℕ) (names : List (List ℕ)) (ys : List Line) → Told before ys → Told before (map (λ m. model m.0 m.1) (enumerate_from j names) ++ ys)
     past-names j before [] ys h = h
@@ -122,9 +121,9 @@ module _ (samples : List Sample) where
     last-told n false k = tt
 
 -- each miss of a report is told
-pub misses-told_whole : (names : List (List ℕ)) (ps : List Plant) (samples : List Sample) (is_whole : Bool) → MissesTold samples 0 None (report names ps samples is_whole)
-misses-told_whole names ps samples is_whole =
+pub misses-told_whole : (obs : Observer) (names : List (List ℕ)) (ps : List Plant) (samples : List Sample) (is_whole : Bool) → MissesTold samples 0 None (report obs names ps samples is_whole)
+misses-told_whole obs names ps samples is_whole =
     let last = last_lines (length samples) is_whole in
-    let rest = past-samples samples ps (length samples) 0 last (last-told samples ps (length samples) is_whole) in
-    subst (λ t. MissesTold samples 0 None t) (sym (append_assoc (head_lines names) (samples_lines ps samples (length samples)) last))
-    (past-names samples ps 0 0 names (samples_lines ps samples (length samples) ++ last) rest)
+    let rest = past-samples obs samples ps (length samples) 0 last (last-told obs samples ps (length samples) is_whole) in
+    subst (λ t. MissesTold samples 0 None t) (sym (append_assoc (head_lines names) (samples_lines obs ps samples (length samples)) last))
+    (past-names obs samples ps 0 0 names (samples_lines obs ps samples (length samples) ++ last) rest)

@@ -1,9 +1,10 @@
 -- What the lines of a report claim. The lines after `sample k`, up to the next such line, speak of sample k; `plant i` is model i.
-use Rattle.std.specs.Prelude.{◌≡◌, ℕ, ℤ, List, [], ◌∷◌, Option, Some, None, if◌then◌else◌, slice_index_or}
+use Rattle.std.specs.Prelude.{◌≡◌, ℕ, ◌<◌, ℤ, List, [], ◌∷◌, Option, Some, None, if◌then◌else◌, slice_index_or}
 use Rattle.set_rules.specs.Columns.{at}
-use Rattle.set_rules.specs.Box.{IsBetween}
+use Rattle.set_rules.specs.Box.{IsBetween, hull as hull_of}
 use Rattle.plant_model.specs.Plant.{Plant, Sample, sample_at, reading_at, Trajectory, states_at, Obeys, Consistent}
-use Rattle.observer_step.specs.Predicted.{reading_misses}
+use Rattle.observer_step.specs.Predicted.{reading_misses, due}
+use Rattle.observer_step.specs.Answers.{Observer}
 use Rattle.farkas_check.specs.Certificate.{Certificate, by_out}
 use Rattle.report_text.specs.Line.{Line, sample, pred, exclude, hull}
 
@@ -59,3 +60,8 @@ MissesTold samples k missed (pred i o lo hi ∷ lines) = MissesTold samples k (f
 MissesTold samples k (Some (i, o)) (line ∷ lines) = (line ≡ exclude i (by_out o)) × MissesTold samples k None lines
 MissesTold samples k None (sample j ∷ lines) = MissesTold samples j None lines
 MissesTold samples k None (line ∷ lines) = MissesTold samples k None lines
+
+-- what an observer has to say rightly at the samples before n: its hulls hold every trajectory, and where an output is due there is none
+pub record IsSoundBefore (o : Observer) (samples : List Sample) (n : ℕ) : Type 0 where
+  pub hulls_hold : (p : Plant) (k : ℕ) → k < n → (x : ℕ) → x < p.states → HoldsEvery p samples k x (hull_of (o.corrected p samples k) x)
+  pub due_has_none : (p : Plant) (k : ℕ) → k < n → (output : ℕ) → due p (sample_at samples k) (o.predicted p samples k) ≡ Some output → ¬ Consistent p samples k

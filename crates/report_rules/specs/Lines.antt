@@ -4,6 +4,7 @@ use Rattle.std.specs.List.{enumerate_from}
 use Rattle.farkas_check.specs.Certificate.{Certificate}
 use Rattle.isolate_core.specs.Verdict.{verdict_of, possible_models}
 use Rattle.plant_model.specs.Plant.{Plant, Sample}
+use Rattle.observer_step.specs.Answers.{Observer}
 use Rattle.model_bank.specs.Answers.{ModelAnswer, SampleAnswer, sample_answer}
 use Rattle.report_text.specs.Line.{Line, title, model, sample, pred, exclude, hull, status, possible, verdict, end}
 
@@ -37,9 +38,9 @@ abbrev pub sample_lines : SampleAnswer → List Line
 sample_lines s = sample s.k ∷ flat_map model_lines s.models ++ possible (possible_models s.possible) ∷ verdict s.verdict ∷ []
 
 -- the lines of the first n samples
-unfoldable pub samples_lines : List Plant → List Sample → ℕ → List Line
-samples_lines ps samples zero = []
-samples_lines ps samples (suc n) = samples_lines ps samples n ++ sample_lines (sample_answer ps samples n)
+unfoldable pub samples_lines : Observer → List Plant → List Sample → ℕ → List Line
+samples_lines o ps samples zero = []
+samples_lines o ps samples (suc n) = samples_lines o ps samples n ++ sample_lines (sample_answer o ps samples n)
 
 -- the last line stands exactly where the telemetry was read to its end
 abbrev pub last_lines : ℕ → Bool → List Line
