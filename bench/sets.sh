@@ -4,19 +4,20 @@
 set -eu
 times=${1:-1000}
 crate=$(cd "$(dirname "$0")/../crates/set_bench" && pwd)
-(cd "$crate" && rt run -- copy 1 >/dev/null 2>&1)
+counts=$(mktemp)
+trap 'rm -f "$counts"' EXIT
+(cd "$crate" && rt run -- 1 >/dev/null 2>&1)
 
-counted() {
-    valgrind --tool=callgrind --callgrind-out-file=/dev/null "$crate/out/set_bench" "$1" "$2" 2>&1 | sed -n 's/.*Collected : //p'
+# What the functions of this name and what they call took in a run of so many turns.
+took() {
+    valgrind --tool=callgrind --callgrind-out-file="$counts" "$crate/out/set_bench" "$2" >/dev/null 2>&1
+    callgrind_annotate --inclusive=yes --threshold=100 "$counts" | grep "$1" | head -n 1 | sed 's/^ *\([0-9,]*\).*/\1/; s/,//g'
 }
 
 each() {
-    echo $((($(counted "$1" $((times + 1))) - $(counted "$1" 1)) / times))
+    echo $((($(took "$1" $((times + 1))) - $(took "$1" 1)) / times))
 }
 
-copy=$(each copy)
-reduce=$(($(each reduce) - copy))
-turn=$(each turn)
-echo "a reduction of 128 columns to 112: $reduce"
-echo "an image of 112 columns, and the reduction after it: $turn"
-echo "an image of 112 columns to 128: $((turn - reduce))"
+image=$(each 'full_size::image_of')
+echo "an image of 112 columns to 128: $image"
+echo "a reduction of 128 columns to 112: $(($(each 'full_size::turn') - image))"

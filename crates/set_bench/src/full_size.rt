@@ -56,13 +56,15 @@ pub fn grown(step: &Step) -> Result<Zono<8>, PastRange> {
 }
 
 /// The set after one step, if there is room for its columns.
-pub fn image_of(step: &Step, z: &mut Zono<8>) {
+#[inline(never)]
+fn image_of(step: &Step, z: &mut Zono<8>) {
     if z.cols().len() <= 112 {
         let _ = z.image(&step.a, &step.shift, &step.e, 8);
     }
 }
 
 /// One step and the reduction after it; gives the number of columns.
+#[inline(never)]
 pub fn turn(step: &Step, z: &mut Zono<8>) -> usize {
     image_of(step, z);
     z.reduce(112);
