@@ -1,0 +1,95 @@
+use crate::{PastRange, Zono};
+use fixed_mat::{Coef, Cols, Mat, Range, Raw};
+use std::test::Fail;
+
+/// A plant of one state: half of it stays, and it is read with noise within 0.1 units.
+const HALF: i128 = 500_000_000;
+
+const ONE: i128 = 1_000_000_000;
+
+const NOISE: i128 = 100_000_000;
+
+#[test]
+fn a_box_predicts_and_reads(rt: HostRuntime) -> Result<(), Fail> {
+    let centre: Mat<1, 1, Range> = Mat::zero();
+    let mut radius: Mat<1, 1, Range> = Mat::zero();
+    radius.set(0, 0, ONE)?;
+    assert!(rt; radius.at(0, 0) >= 0);
+    let Ok(mut z) = Zono::of_box(&centre, &radius) else {
+        return Err("refused".into());
+    };
+    assert_eq!(rt; z.hull(0), (-ONE, ONE));
+    let mut c: Mat<1, 1, Coef> = Mat::zero();
+    c.set(0, 0, ONE)?;
+    assert!(rt; z.cols().len() == 1);
+    assert_eq!(rt;
+        z.out_interval(&c, 0, NOISE),
+        (-1_100_000_000, 1_100_000_000)
+    );
+    let row = z.strip_row(&c, 0, HALF, NOISE);
+    assert_eq!(rt; row.a.len(), 2);
+    assert_eq!(rt; row.a.at(0), ONE);
+    assert_eq!(rt; row.a.at(1), NOISE);
+    assert_eq!(rt; row.b, HALF);
+    z.reduce(48);
+    assert_eq!(rt; z.cols().len(), 1);
+    Ok(())
+}
+
+/// The set after one reading, and where it moves. Each of its five numbers leaves half a nano-unit, so two make up for the rounding.
+#[test]
+fn halves_are_made_up_for(rt: HostRuntime) -> Result<(), Fail> {
+    let mut centre: Mat<1, 1, Range> = Mat::zero();
+    centre.set(0, 0, 495_049_505)?;
+    let radius: Mat<1, 1, Range> = Mat::zero();
+    let Ok(mut z) = Zono::of_box(&centre, &radius) else {
+        return Err("refused".into());
+    };
+    let mut cols: Cols<1> = Cols::new();
+    cols.push_diagonal(0, 9_900_991);
+    cols.push_diagonal(0, -99_009_901);
+    cols.push_diagonal(0, 1);
+    assert!(rt; z.centre(0) == 495_049_505);
+    assert!(rt; cols.mag(0) == 108_910_893);
+    z.set_cols(cols);
+    let mut a: Mat<1, 1, Coef> = Mat::zero();
+    a.set(0, 0, HALF)?;
+    let shift: Mat<1, 1, Raw> = Mat::zero();
+    let e: Mat<1, 8, Range> = Mat::zero();
+    assert!(rt; z.cols().len() == 3);
+    assert!(rt; z.image(&a, &shift, &e, 0).is_ok());
+    assert_eq!(rt; z.cols().len(), 4);
+    assert_eq!(rt; z.centre(0), 247_524_753);
+    assert_eq!(rt; z.cols().at(0, 0), 4_950_496);
+    assert_eq!(rt; z.cols().at(0, 1), -49_504_950);
+    assert_eq!(rt; z.cols().at(0, 2), 1);
+    assert_eq!(rt; z.cols().at(0, 3), 2);
+    Ok(())
+}
+
+#[test]
+fn an_image_past_the_range_is_refused(rt: HostRuntime) -> Result<(), Fail> {
+    let centre: Mat<1, 1, Range> = Mat::zero();
+    let mut radius: Mat<1, 1, Range> = Mat::zero();
+    radius.set(0, 0, 1_000_001 * ONE)?;
+    assert!(rt; radius.at(0, 0) >= 0);
+    let Ok(mut z) = Zono::of_box(&centre, &radius) else {
+        return Err("refused".into());
+    };
+    let mut a: Mat<1, 1, Coef> = Mat::zero();
+    a.set(0, 0, 1_000 * ONE)?;
+    let shift: Mat<1, 1, Raw> = Mat::zero();
+    let e: Mat<1, 8, Range> = Mat::zero();
+    assert!(rt; z.cols().len() == 1);
+    assert!(rt;
+        matches!(
+            z.image(&a, &shift, &e, 0),
+            Err(PastRange {
+                i: 0,
+                mag: 1_000_001_000_000_000_000
+            })
+        )
+    );
+    assert_eq!(rt; z.hull(0), (-1_000_001 * ONE, 1_000_001 * ONE));
+    Ok(())
+}
