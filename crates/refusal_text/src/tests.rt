@@ -418,6 +418,22 @@ fn the_whole_of_a_file_is_judged(rt: HostRuntime) -> Result<(), Fail> {
 }
 
 #[test]
+fn a_second_model_has_another_name(rt: HostRuntime) -> Result<(), Fail> {
+    let alloc = rt.alloc();
+    let text = format!(in alloc; "{FILE}[[model]]\nname = \"Q\"\n")?;
+    assert_eq!(rt;
+        said(alloc, text.as_str())?.as_str(),
+        "model refused: model[1].name: bad name"
+    );
+    let text = format!(in alloc; "{FILE}[[model]]\nname = \"R\"\n")?;
+    assert_eq!(rt;
+        said(alloc, text.as_str())?.as_str(),
+        "model refused: model[1].states: missing"
+    );
+    Ok(())
+}
+
+#[test]
 fn a_file_past_its_greatest_length_is_refused(rt: HostRuntime) -> Result<(), Fail> {
     let alloc = rt.alloc();
     let mut bytes = Vec::from_slice(alloc, FILE.as_bytes())?;
