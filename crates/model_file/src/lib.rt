@@ -15,3 +15,6 @@ pub use bank::Bank0;
 pub use fault::ModelFault;
 pub use place::{Count, Field, Path};
 pub use reader::{MOST_BYTES, read_models};
+
+#[cfg(test)]
+mod tests;

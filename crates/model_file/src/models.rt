@@ -18,7 +18,7 @@ use std::alloc::Global;
 use toml::Value;
 
 /// Whether one of the models has this name.
-#[tactic(auto, using(plant_model::proofs::Tests::list_any_map))]
+#[tactic(auto, using(plant_model::proofs::ListTests::list_any_map))]
 fn is_taken(name: &str, earlier: &[NamedPlant]) -> bool
     ensures { result ≡ list_any (bytes_eq name.now) (map name_seen earlier.now) }
 {

@@ -1,3 +1,3 @@
 pub mod FirstBelow
 pub mod IsPlant
-pub mod Tests
+pub mod ListTests

@@ -56,7 +56,7 @@ impl Names {
     }
 
     /// Whether this name is among them.
-    #[tactic(auto, using(crate::proofs::Tests::list_any_map))]
+    #[tactic(auto, using(crate::proofs::ListTests::list_any_map))]
     pub fn contains(&self, name: &str) -> bool
         ensures { result ≡ list_any (bytes_eq name.now) self.now }
     {

@@ -5,3 +5,6 @@ mod model;
 mod pieces;
 
 pub use model::model_refusal;
+
+#[cfg(test)]
+mod tests;
