@@ -3,5 +3,7 @@
 
 mod model;
 mod pieces;
+mod telemetry;
 
 pub use model::model_refusal;
+pub use telemetry::telemetry_refusal;
