@@ -11,5 +11,5 @@ unwrap-requires c =
 pub returns : goal.returns
 returns c =
     let e : Some c.unwrap.result.now ≡ Some (get_or (fields_of c.args.row.now) c.args.place []) =
-      rw c.unwrap.ensures at (c.get.ensures.value ∙ field_at-some (fields_of c.args.row.now) c.args.place c.requires) in
+    rw c.unwrap.ensures at (c.get.ensures.value ∙ field_at-some (fields_of c.args.row.now) c.args.place c.requires) in
     cc
