@@ -43,7 +43,7 @@ fn push_refusal(path: &Path, cause: &[u8], line: &mut Line)
     push_text(cause, line);
 }
 
-fn decimal_cause(why: DecFault) -> &'static [u8]
+pub(crate) fn decimal_cause(why: DecFault) -> &'static [u8]
     ensures text { result.now ≡ decimal_cause why }
     ensures short { length result.now ≤ 22 }
 {

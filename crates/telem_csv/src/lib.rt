@@ -14,3 +14,6 @@ pub use fault::{Col, TelemFault, TelemWhy};
 pub use fed::Fed;
 pub use header::Header;
 pub use row::read_row;
+
+#[cfg(test)]
+mod tests;
