@@ -40,7 +40,6 @@ pub struct Bounds<const N: usize> {
 }
 
 impl Counts {
-    ghost use Rattle.std.specs.Prelude.{OnOk};
     ghost use Rattle.model_file.specs.Models.{count_of, matrices_of, bounds_of, plant_in};
     ghost use Rattle.model_file.specs.Parts.{AreCounts, matrices_seen, bounds_seen};
 
@@ -163,4 +162,4 @@ impl Counts {
 }
 
 /// The least number in the range.
-const LOWEST: i128 = -1_000_000_000_000_000_000;
+const LOWEST: i128 = -(RANGE as i128);

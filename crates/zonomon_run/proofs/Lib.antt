@@ -1,8 +1,8 @@
-pub mod Documents
-pub mod Interval
+pub mod ByCount
 pub mod Put
 pub mod Told
 pub mod Reported
 pub mod Files
 pub mod Runs
+pub mod Single
 pub mod Claims

@@ -5,30 +5,51 @@ use Rattle.std.specs.Io.KnownBytes.{Appends}
 use Rattle.outside_io.specs.Sink.{AppendsFront}
 use Rattle.outside_io.proofs.Grows.{appends_more}
 use Rattle.outside_io.proofs.Fronts.{front-after, front-before}
+use Rattle.set_rules.specs.Columns.{tabulate}
 use Rattle.set_rules.specs.Box.{hull}
 use Rattle.set_rules.specs.Strip.{misses}
 use Rattle.set_rules.specs.Tests.{first_below, last_passing}
-use Rattle.observer_step.specs.Predicted.{first_set, out_of, due}
+use Rattle.plant_model.specs.Plant.{Plant, reading_at}
+use Rattle.observer_step.specs.Predicted.{first_set, out_of, predicted_outs, hulls, due, reading_misses}
 use Rattle.farkas_check.specs.Certificate.{by_out}
 use Rattle.isolate_core.specs.declared.verdict.Verdict.TheVariants as judged
 use Rattle.report_text.specs.Line.{Line, title, model, sample, pred, exclude, hull as hull_line, status, possible, verdict, end, put_text, lines_text}
-use Rattle.zonomon_run.specs.Form.{Numbers, plant_of, sample_of}
+use Rattle.report_rules.specs.Lines.{head_lines, pred_lines, outcome_lines, closing_lines}
+use Rattle.zonomon_run.specs.Form.{sample_of}
 use Rattle.zonomon_run.specs.Report.{opening, outcome, report}
 
-module _ (name : List ℕ) (n : Numbers) (v lo hi : ℤ) (low : lo ≡ (out_of (plant_of n) [] (first_set (plant_of n)) 0).0) (high : hi ≡ (out_of (plant_of n) [] (first_set (plant_of n)) 0).1) where
-  pub opening-is : title ∷ model 0 name ∷ sample 0 ∷ pred 0 0 lo hi ∷ [] ≡ opening name (plant_of n) (sample_of v)
-  opening-is i = title ∷ model 0 name ∷ sample 0 ∷ pred 0 0 (low i) (high i) ∷ []
+-- the predicted interval, and the ends of the box
+abbrev pub ends_of : Plant → ℤ × ℤ
+ends_of p = out_of p [] (first_set p) 0
 
-  due-is : (b : Bool) → misses (lo, hi) v (pos 0) ≡ b → due (plant_of n) (sample_of v) (first_set (plant_of n)) ≡ last_passing 0 b
+abbrev pub box_of : Plant → ℤ × ℤ
+box_of p = hull (first_set p) 0
+
+abbrev pub opened : List ℕ → ℤ × ℤ → List Line
+opened name ends = title ∷ model 0 name ∷ sample 0 ∷ pred 0 0 ends.0 ends.1 ∷ []
+
+abbrev pub excluded : List Line
+excluded = exclude 0 (by_out 0) ∷ possible [] ∷ verdict judged.None ∷ end 1 ∷ []
+
+abbrev pub fitting : ℤ × ℤ → List Line
+fitting box = hull_line 0 0 box.0 box.1 ∷ status 0 true ∷ possible (0 ∷ []) ∷ verdict (judged.Isolated 0) ∷ end 1 ∷ []
+
+module _ (name : List ℕ) (p : Plant) (v : ℤ) where
+  pub opening-is : p.outputs ≡ 1 → opened name (ends_of p) ≡ opening name p (sample_of v)
+  opening-is outputs = sym (ap (λ k. head_lines (name ∷ []) ++ sample 0 ∷ pred_lines 0 (tabulate k (out_of p [] (first_set p)))) outputs)
+
+  due-is : p.outputs ≡ 1 → (b : Bool) → misses (ends_of p) v (pos 0) ≡ b → due p (sample_of v) (first_set p) ≡ last_passing 0 b
   unfolding due first_below
-  due-is b e = ap (last_passing 0) (sym (λ i. misses (low i, high i) v (pos 0)) ∙ e)
+  due-is outputs b e = ap (λ k. first_below k (λ o. reading_misses (out_of p [] (first_set p) o) (reading_at (sample_of v) o))) outputs ∙ ap (last_passing 0) e
 
-  pub exclusion-is : misses (lo, hi) v (pos 0) ≡ true → exclude 0 (by_out 0) ∷ possible [] ∷ verdict judged.None ∷ end 1 ∷ [] ≡ outcome (plant_of n) (due (plant_of n) (sample_of v) (first_set (plant_of n)))
-  exclusion-is e = ap (outcome (plant_of n)) (sym (due-is true e))
+  pub exclusion-is : p.outputs ≡ 1 → misses (ends_of p) v (pos 0) ≡ true → excluded ≡ outcome p (due p (sample_of v) (first_set p))
+  exclusion-is outputs e = ap (outcome p) (sym (due-is outputs true e))
 
-  pub fit-is : misses (lo, hi) v (pos 0) ≡ false
-      → hull_line 0 0 (hull (first_set (plant_of n)) 0).0 (hull (first_set (plant_of n)) 0).1 ∷ status 0 true ∷ possible (0 ∷ []) ∷ verdict (judged.Isolated 0) ∷ end 1 ∷ [] ≡ outcome (plant_of n) (due (plant_of n) (sample_of v) (first_set (plant_of n)))
-  fit-is e = ap (outcome (plant_of n)) (sym (due-is false e))
+  fits-is : p.states ≡ 1 → fitting (box_of p) ≡ outcome p None
+  fits-is states = sym (ap (λ k. outcome_lines 0 None (tabulate k (hull (first_set p))) false ++ closing_lines (0 ∷ []) ++ end 1 ∷ []) states)
+
+  pub fit-is : p.states ≡ 1 → p.outputs ≡ 1 → misses (ends_of p) v (pos 0) ≡ false → fitting (box_of p) ≡ outcome p (due p (sample_of v) (first_set p))
+  fit-is states outputs e = fits-is states ∙ ap (outcome p) (sym (due-is outputs false e))
 
 -- lines that were put, and more of them
 module _ (a b c : Option (List ℕ)) (xs ys xs' ys' : List Line) (e : xs ≡ xs') (f : ys ≡ ys') where

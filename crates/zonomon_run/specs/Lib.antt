@@ -2,7 +2,7 @@ pub mod Words
 pub mod Command
 pub mod Whole
 pub mod Form
-pub mod Read
+pub mod Endings
 pub mod Telemetry
 pub mod Report
 pub mod Ending

@@ -1,12 +1,12 @@
--- What a run puts for files of the first form: one model of one state and one reading.
-use Rattle.std.specs.Prelude.{ℕ, ℤ, List, [], ◌∷◌, ◌++◌, Bool, false, is_none, is_some, Option, Some, None, option_map, if◌then◌else◌}
-use Rattle.set_rules.specs.Zono.{Zono}
+-- What a run puts for files that are served: one model of one state, and one reading.
+use Rattle.std.specs.Prelude.{ℕ, ℤ, List, [], ◌∷◌, ◌++◌, Bool, false, is_none, Option, Some, None, option_map, if◌then◌else◌}
 use Rattle.plant_model.specs.Plant.{Plant, Sample}
 use Rattle.observer_step.specs.Predicted.{first_set, predicted_outs, hulls, due}
-use Rattle.farkas_check.specs.Certificate.{Certificate, by_out}
+use Rattle.farkas_check.specs.Certificate.{by_out}
+use Rattle.model_file.specs.Bank.{Models}
 use Rattle.report_text.specs.Line.{Line, sample, end}
 use Rattle.report_rules.specs.Lines.{head_lines, pred_lines, outcome_lines, closing_lines}
-use Rattle.zonomon_run.specs.Form.{OneState, ◌>>=◌, model_in, plant_of, sample_of}
+use Rattle.zonomon_run.specs.Form.{◌>>=◌, model_in, first_model, first_output, sample_of}
 use Rattle.zonomon_run.specs.Telemetry.{one_reading}
 
 -- the model, where it stays
@@ -25,20 +25,20 @@ outcome p o = outcome_lines 0 (option_map by_out o) (hulls p (first_set p)) fals
 abbrev pub report : List ℕ → Plant → Sample → List Line
 report name p s = opening name p s ++ outcome p (due p s (first_set p))
 
--- a model of the first form, and the reading of its telemetry
+-- the models that are served, and the reading of the telemetry
 pub record Served : Type 0 where
-  pub model : OneState
+  pub models : Models
   pub reading : ℤ
 
--- what the bytes of both files say, where both have the first form
+-- what the bytes of both files say, where both are served
 unfoldable pub served : List ℕ → List ℕ → Option Served
-served model telemetry = model_in model >>= λ m. option_map (λ v. let both : Served = record { model = m; reading = v } in both) (one_reading m.output telemetry)
+served model telemetry = model_in model >>= λ ms. option_map (λ v. let both : Served = record { models = ms; reading = v } in both) (one_reading (first_output ms) telemetry)
 
 abbrev pub plant_served : Served → Plant
-plant_served both = plant_of both.model.numbers
+plant_served both = (first_model both.models).plant
 
 abbrev pub report_served : Served → List Line
-report_served both = report both.model.name (plant_served both) (sample_of both.reading)
+report_served both = report (first_model both.models).name (plant_served both) (sample_of both.reading)
 
 abbrev pub samples_served : Served → List Sample
 samples_served both = sample_of both.reading ∷ []

@@ -8,11 +8,17 @@ use Rattle.zonomon_run.specs.Words.{asked_by, monitor}
 use Rattle.zonomon_run.specs.declared.ending.Ending.{Ending}
 use Rattle.zonomon_run.specs.declared.ending.Ending.TheVariants.{ReadModel, ReadTelemetry}
 use Rattle.zonomon_run.specs.Report.{Served, served, report_served, plant_served, samples_served}
+use Rattle.model_file.specs.declared.fault.ModelFault.{ModelFault}
+use Rattle.zonomon_run.specs.Form.{refusal_in}
 use Rattle.report_rules.specs.Claims.{HullsHold, ExclusionsHold, MissesTold}
 
 -- a claim on the bytes of a model file and a telemetry, where both are told
 abbrev pub OnBytes : Option (List ℕ) → Option (List ℕ) → (List ℕ → List ℕ → Type 0) → Type 0
 OnBytes model telemetry claim = IfSome model (λ m. IfSome telemetry (λ t. claim m t))
+
+-- a claim on the model file that the words `run` name, where the shelf tells it
+abbrev pub OnModel : List (List ℕ) → (List ℕ → Option (List ℕ)) → (List ℕ → Type 0) → Type 0
+OnModel words file claim = (model telemetry : List ℕ) → asked_by words ≡ monitor model telemetry → IfSome (file model) claim
 
 -- a claim on the files that the words `run` name, where the shelf tells them
 abbrev pub OnFiles : List (List ℕ) → (List ℕ → Option (List ℕ)) → (List ℕ → List ℕ → Type 0) → Type 0
@@ -50,7 +56,15 @@ pub record NoneRose (before now : ℕ → ℕ) (out out' : ℕ) : Type 0 where
 
 -- the statuses
 abbrev pub IsStatus : ℕ → Type 0
-IsStatus n = (n ≡ 0) ⊎ ((n ≡ 1) ⊎ ((n ≡ 4) ⊎ ((n ≡ 5) ⊎ ((n ≡ 6) ⊎ (n ≡ 8)))))
+IsStatus n = (n ≡ 0) ⊎ ((n ≡ 1) ⊎ ((n ≡ 2) ⊎ ((n ≡ 4) ⊎ ((n ≡ 5) ⊎ ((n ≡ 6) ⊎ (n ≡ 8))))))
+
+-- the statuses of the word `help`
+abbrev pub IsHelpStatus : ℕ → Type 0
+IsHelpStatus n = (n ≡ 0) ⊎ ((n ≡ 5) ⊎ (n ≡ 6))
+
+-- the model file that the words `run` name is refused with this fault, and that was told
+abbrev pub IsRefusedBy : (ModelFault → Type 0) → List (List ℕ) → (List ℕ → Option (List ℕ)) → Type 0
+IsRefusedBy told words file = (fault : ModelFault) × OnModel words file (λ m. refusal_in m ≡ Some fault) × told fault
 
 -- ---- what the printed lines claim
 

@@ -9,6 +9,7 @@ use Rattle.std.specs.declared.alloc.Global.{Global}
 -- what the words ask for
 pub data Asked : Type 0 where
   monitor : List ℕ → List ℕ → Asked
+  helps : Asked
   later : Asked
   faulty : Asked
 
@@ -25,11 +26,17 @@ is_sample_count text = is_number 5 1 10_000 text
 abbrev pub two_words : List ℕ → List ℕ → List ℕ → Asked
 two_words verb a b = if bytes_eq verb (codes "run") then monitor a b else (if bytes_eq verb (codes "demo") && (is_seed a && is_sample_count b) then later else faulty)
 
--- `run MODEL TELEMETRY` is served; `check MODEL TELEMETRY REPORT`, `demo SEED SAMPLES` and `help` are not yet
+abbrev pub one_word : List ℕ → Asked
+one_word verb = if bytes_eq verb (codes "help") then helps else faulty
+
+abbrev pub three_words : List ℕ → Asked
+three_words verb = if bytes_eq verb (codes "check") then later else faulty
+
+-- `run MODEL TELEMETRY` and `help` are served; `check MODEL TELEMETRY REPORT` and `demo SEED SAMPLES` are not yet
 abbrev pub asked_by : List (List ℕ) → Asked
-asked_by (verb ∷ []) = if bytes_eq verb (codes "help") then later else faulty
+asked_by (verb ∷ []) = one_word verb
 asked_by (verb ∷ a ∷ b ∷ []) = two_words verb a b
-asked_by (verb ∷ a ∷ b ∷ c ∷ []) = if bytes_eq verb (codes "check") then later else faulty
+asked_by (verb ∷ a ∷ b ∷ c ∷ []) = three_words verb
 asked_by _ = faulty
 
 abbrev pub texts : List (String Global) → List (List ℕ)

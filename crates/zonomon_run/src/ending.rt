@@ -1,14 +1,25 @@
 //! How the program ends, and what it says of it.
-ghost use Rattle.std.specs.Prelude.{◌≡◌};
-ghost use Rattle.zonomon_run.specs.Ending.{status_of, text_of, Tells};
+ghost use Rattle.std.specs.Prelude.{◌≡◌, OnOk, OnErr};
+ghost use Rattle.std.specs.Io.KnownBytes.{Appends};
+ghost use Rattle.outside_io.specs.Causes.{HasCause};
+ghost use Rattle.outside_io.specs.Sink.{AppendsFront};
+ghost use Rattle.zonomon_run.specs.Ending.{status_of, text_of, usage_lines, model_refusal_text, Tells};
 
-use outside_io::{Sink, put_all};
+use model_file::ModelFault;
+use outside_io::{PutFault, Sink, put_all};
+use refusal_text::model_refusal;
+
+/// How the program is called.
+const USAGE: &[u8] =
+    b"usage: zonomon run MODEL TELEMETRY\n       zonomon check MODEL TELEMETRY REPORT\n       zonomon demo SEED SAMPLES\n       zonomon help\n";
 
 /// Why the program ends with another status than 0.
-#[derive(Clone, Copy)]
+#[derive(Drop)]
 pub enum Ending {
     /// The words have none of the forms.
     Usage,
+    /// The model file is refused.
+    Model(ModelFault),
     /// The model file could not be read.
     ReadModel,
     /// The telemetry could not be read.
@@ -21,39 +32,62 @@ pub enum Ending {
     NotBuilt,
 }
 
+/// The lines that say how the program is called.
+pub fn usage() -> &'static [u8]
+    ensures { result.now ≡ usage_lines }
+{
+    USAGE
+}
+
 /// Puts the line of an ending to `err`, and gives its status. A fault of `err` changes no status.
 pub fn tell<E: Sink>(err: &mut E, ending: Ending) -> u8
     ensures status { result ≡ status_of ending }
     ensures told { Tells (E.held err.old) (E.held err.new) (E.faults err.old) (E.faults err.new) (E.wants err.old) (E.wants err.new) (text_of ending) }
 {
-    let _ = put_all(err, line(ending));
-    status(ending)
+    let _ = put_ending(err, &ending);
+    status(&ending)
 }
 
-fn status(ending: Ending) -> u8
-    ensures { result ≡ status_of ending }
+/// Puts the line of an ending.
+fn put_ending<E: Sink>(err: &mut E, ending: &Ending) -> Result<(), PutFault>
+    ensures ok { OnOk result (Appends (E.held err.old) (E.held err.new) (text_of ending.now)) }
+    ensures err { OnErr result (AppendsFront (E.held err.old) (E.held err.new) (text_of ending.now)) }
+    ensures failed { HasCause PutFault.Failed (E.faults err.old) (E.faults err.new) result }
+    ensures memory { HasCause PutFault.Memory (E.wants err.old) (E.wants err.new) result }
+{
+    match ending {
+        Ending::Model(fault) => put_refusal(err, fault),
+        Ending::Usage => put_all(err, usage()),
+        Ending::ReadModel => put_all(err, b"read fault: model\n"),
+        Ending::ReadTelemetry => put_all(err, b"read fault: telemetry\n"),
+        Ending::Write => put_all(err, b"write fault\n"),
+        Ending::Memory => put_all(err, b"out of memory\n"),
+        Ending::NotBuilt => put_all(err, b"not built\n"),
+    }
+}
+
+/// Puts the line that says why a model file is refused.
+fn put_refusal<E: Sink>(err: &mut E, fault: &ModelFault) -> Result<(), PutFault>
+    ensures ok { OnOk result (Appends (E.held err.old) (E.held err.new) (model_refusal_text fault.now)) }
+    ensures err { OnErr result (AppendsFront (E.held err.old) (E.held err.new) (model_refusal_text fault.now)) }
+    ensures failed { HasCause PutFault.Failed (E.faults err.old) (E.faults err.new) result }
+    ensures memory { HasCause PutFault.Memory (E.wants err.old) (E.wants err.new) result }
+{
+    let mut line = model_refusal(fault);
+    line.push(b'\n');
+    put_all(err, &line)
+}
+
+fn status(ending: &Ending) -> u8
+    ensures { result ≡ status_of ending.now }
 {
     match ending {
         Ending::Usage => 1,
+        Ending::Model(_) => 2,
         Ending::ReadModel => 4,
         Ending::ReadTelemetry => 4,
         Ending::Write => 5,
         Ending::Memory => 6,
         Ending::NotBuilt => 8,
-    }
-}
-
-fn line(ending: Ending) -> &'static [u8]
-    ensures { result.now ≡ text_of ending }
-{
-    match ending {
-        Ending::Usage => {
-            b"usage: zonomon run MODEL TELEMETRY\n       zonomon check MODEL TELEMETRY REPORT\n       zonomon demo SEED SAMPLES\n       zonomon help\n"
-        }
-        Ending::ReadModel => b"read fault: model\n",
-        Ending::ReadTelemetry => b"read fault: telemetry\n",
-        Ending::Write => b"write fault\n",
-        Ending::Memory => b"out of memory\n",
-        Ending::NotBuilt => b"not built\n",
     }
 }

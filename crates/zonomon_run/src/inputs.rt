@@ -1,86 +1,78 @@
 //! The files of a run, read and judged.
-ghost use Rattle.std.specs.Prelude.{◌≡◌, ◌⊎◌, ℕ, ◌<◌, ◌≤◌, List, Some, None, IfOk, IfErr, OnOk, OnErr, IsErrOf, IfSome, string_bytes};
+ghost use Rattle.std.specs.Prelude.{◌≡◌, ◌⊎◌, ℕ, ◌<◌, ◌≤◌, List, Some, None, Ok, IfOk, IfErr, OnOk, OnErr, IsErrOf, IfSome, string_bytes};
 ghost use Rattle.std.specs.Io.KnownBytes.{IsAtEnd};
 ghost use Rattle.outside_io.specs.Causes.{Rose};
 ghost use Rattle.outside_io.specs.Shelf.{IsFresh, KeepsOthers};
-ghost use Rattle.zonomon_run.specs.Form.{model_in};
-ghost use Rattle.zonomon_run.specs.Read.{seen};
+ghost use Rattle.model_file.specs.ModelFile.{models_of};
 ghost use Rattle.zonomon_run.specs.Telemetry.{one_reading};
-ghost use Rattle.zonomon_run.specs.Report.{served};
-ghost use Rattle.zonomon_run.specs.Runs.{OnBytes, ReadFailed};
+ghost use Rattle.zonomon_run.specs.Endings.{is_memory, ModelSays, IsModelEnding, IsBytesEnding, IsTelemetryEnding};
+ghost use Rattle.zonomon_run.specs.Runs.{ReadFailed};
 ghost use Rattle.zonomon_run.specs.Whole.{IsAskedAtMost};
 
 use crate::ending::Ending;
-use crate::first_form::{OneState, read_first_form};
 use crate::telemetry::one_reading;
 use crate::whole::read_whole;
+use model_file::{Bank0, ModelFault, read_models};
 use outside_io::{GetFault, Shelf};
 use std::alloc::Global;
 
-/// The longest file of the first form, in bytes.
-const MOST_BYTES: usize = 4096;
+/// The longest model file, in bytes.
+const MOST_MODEL: usize = 1_048_576;
 
-/// The model and the reading of the two files.
-pub fn read_inputs<F: Shelf>(
-    alloc: Global,
-    shelf: &mut F,
-    model: &str,
-    telemetry: &str,
-) -> Result<(OneState, i128), Ending>
-    requires fresh { IsFresh (F.asked shelf.old) }
-    ensures served { IfOk result (λ x. OnBytes (F.file shelf.old model.now) (F.file shelf.old telemetry.now) (λ m t. served m t ≡ Some (record { model = seen x.0; reading = x.1 }))) }
-    ensures not_built { IsErrOf result Ending.NotBuilt → OnBytes (F.file shelf.old model.now) (F.file shelf.old telemetry.now) (λ m t. served m t ≡ None) }
-    ensures read_model { IsErrOf result Ending.ReadModel → ReadFailed (F.faults shelf.old 0) (F.faults shelf.new 0) (F.asked shelf.new 0) model.now }
-    ensures read_telemetry { IsErrOf result Ending.ReadTelemetry → ReadFailed (F.faults shelf.old 1) (F.faults shelf.new 1) (F.asked shelf.new 1) telemetry.now }
-    ensures no_write { IsErrOf result Ending.Write → ⊥ }
-    ensures no_usage { IsErrOf result Ending.Usage → ⊥ }
-    ensures model_end { OnOk result (IsAtEnd (F.rest shelf.new 0)) }
-    ensures telemetry_end { OnOk result (IsAtEnd (F.rest shelf.new 1)) }
-    ensures asked_model { IsAskedAtMost (F.asked shelf.new 0) model.now }
-    ensures asked_telemetry { IsAskedAtMost (F.asked shelf.new 1) telemetry.now }
-    ensures asked_report { F.asked shelf.new 2 ≡ None }
-{
-    let plant = read_model(alloc, shelf, model)?;
-    let value = read_telemetry(alloc, shelf, telemetry, plant.output.as_bytes())?;
-    Ok((plant, value))
-}
+/// The longest telemetry, in bytes.
+const MOST_TELEMETRY: usize = 4096;
 
-fn read_model<F: Shelf>(alloc: Global, shelf: &mut F, model: &str) -> Result<OneState, Ending>
+/// The models of the model file, in slot 0.
+pub fn read_model<F: Shelf>(alloc: Global, shelf: &mut F, model: &str) -> Result<Bank0, Ending>
     requires fresh { F.asked shelf.old 0 ≡ None }
-    ensures served { IfOk result (λ p. IfSome (F.file shelf.old model.now) (λ m. model_in m ≡ Some (seen p))) }
-    ensures not_built { IsErrOf result Ending.NotBuilt → IfSome (F.file shelf.old model.now) (λ m. model_in m ≡ None) }
+    ensures read_all { IfOk result (λ bank. IfSome (F.file shelf.old model.now) (λ m. models_of m ≡ Ok bank)) }
+    ensures says { IfErr result (λ e. IfSome (F.file shelf.old model.now) (ModelSays e)) }
+    ensures faults { IfErr result IsModelEnding }
     ensures read { IsErrOf result Ending.ReadModel → ReadFailed (F.faults shelf.old 0) (F.faults shelf.new 0) (F.asked shelf.new 0) model.now }
-    ensures no_telemetry { IsErrOf result Ending.ReadTelemetry → ⊥ }
-    ensures no_write { IsErrOf result Ending.Write → ⊥ }
-    ensures no_usage { IsErrOf result Ending.Usage → ⊥ }
     ensures at_end { OnOk result (IsAtEnd (F.rest shelf.new 0)) }
     ensures asked { IsAskedAtMost (F.asked shelf.new 0) model.now }
     ensures files { (n : List ℕ) → F.file shelf.new n ≡ F.file shelf.old n }
     ensures others { KeepsOthers 0 (F.attached shelf.old) (F.attached shelf.new) (F.asked shelf.old) (F.asked shelf.new) (F.rest shelf.old) (F.rest shelf.new) (F.faults shelf.old) (F.faults shelf.new) }
     ensures later { F.faults shelf.old 0 ≤ F.faults shelf.new 0 }
 {
-    let bytes = match read_whole(alloc, shelf, 0, model, MOST_BYTES) {
+    let bytes = match read_whole(alloc, shelf, 0, model, MOST_MODEL) {
         Ok(bytes) => bytes,
         Err(GetFault::Failed) => return Err(Ending::ReadModel),
         Err(GetFault::Memory) => return Err(Ending::Memory),
     };
-    model_of(alloc, &bytes)
+    models_of(alloc, &bytes)
 }
 
-/// The model of a file's bytes, or as many of them as are more than the first form has.
-fn model_of(alloc: Global, bytes: &[u8]) -> Result<OneState, Ending>
-    ensures served { IfOk result (λ p. model_in bytes.now ≡ Some (seen p)) }
-    ensures faults { IfErr result (λ e. (e ≡ Ending.NotBuilt) ⊎ (e ≡ Ending.Memory)) }
-    ensures not_built { IsErrOf result Ending.NotBuilt → model_in bytes.now ≡ None }
+/// The models of a file's bytes, or of as many of them as are more than a model file has.
+fn models_of(alloc: Global, bytes: &[u8]) -> Result<Bank0, Ending>
+    ensures ok { IfOk result (λ bank. models_of bytes.now ≡ Ok bank) }
+    ensures says { IfErr result (λ e. ModelSays e bytes.now) }
+    ensures faults { IfErr result IsBytesEnding }
 {
-    match read_first_form(alloc, bytes) {
-        Ok(Some(plant)) => Ok(plant),
-        Ok(None) => Err(Ending::NotBuilt),
-        Err(_) => Err(Ending::Memory),
+    match read_models(alloc, bytes) {
+        Ok(bank) => Ok(bank),
+        Err(fault) => {
+            if is_memory(&fault) {
+                Err(Ending::Memory)
+            } else {
+                Err(Ending::Model(fault))
+            }
+        }
     }
 }
 
-fn read_telemetry<F: Shelf>(
+/// Whether memory ran out.
+fn is_memory(fault: &ModelFault) -> bool
+    ensures { result ≡ is_memory fault.now }
+{
+    match fault {
+        ModelFault::Memory => true,
+        _ => false,
+    }
+}
+
+/// The reading of the telemetry, in slot 1.
+pub fn read_telemetry<F: Shelf>(
     alloc: Global,
     shelf: &mut F,
     telemetry: &str,
@@ -90,14 +82,12 @@ fn read_telemetry<F: Shelf>(
     ensures served { IfOk result (λ v. IfSome (F.file shelf.old telemetry.now) (λ t. one_reading column.now t ≡ Some v)) }
     ensures not_built { IsErrOf result Ending.NotBuilt → IfSome (F.file shelf.old telemetry.now) (λ t. one_reading column.now t ≡ None) }
     ensures read { IsErrOf result Ending.ReadTelemetry → ReadFailed (F.faults shelf.old 1) (F.faults shelf.new 1) (F.asked shelf.new 1) telemetry.now }
-    ensures no_model { IsErrOf result Ending.ReadModel → ⊥ }
-    ensures no_write { IsErrOf result Ending.Write → ⊥ }
-    ensures no_usage { IsErrOf result Ending.Usage → ⊥ }
+    ensures faults { IfErr result IsTelemetryEnding }
     ensures at_end { OnOk result (IsAtEnd (F.rest shelf.new 1)) }
     ensures asked { IsAskedAtMost (F.asked shelf.new 1) telemetry.now }
     ensures others { KeepsOthers 1 (F.attached shelf.old) (F.attached shelf.new) (F.asked shelf.old) (F.asked shelf.new) (F.rest shelf.old) (F.rest shelf.new) (F.faults shelf.old) (F.faults shelf.new) }
 {
-    let rows = match read_whole(alloc, shelf, 1, telemetry, MOST_BYTES) {
+    let rows = match read_whole(alloc, shelf, 1, telemetry, MOST_TELEMETRY) {
         Ok(rows) => rows,
         Err(GetFault::Failed) => return Err(Ending::ReadTelemetry),
         Err(GetFault::Memory) => return Err(Ending::Memory),

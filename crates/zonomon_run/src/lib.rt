@@ -2,9 +2,10 @@
 #![tactic(auto)]
 
 mod ending;
-mod first_form;
+mod help;
 mod inputs;
 mod monitor;
+mod one_state;
 mod predict;
 mod report;
 mod running;

@@ -1,14 +1,17 @@
 //! A run from its files to its report.
-ghost use Rattle.std.specs.Prelude.{◌≡◌, ◌≢◌, ◌⊎◌, ℕ, ◌<◌, ◌≤◌, List, Some, None, IfErr, OnOk, OnErr, IsErrOf};
+ghost use Rattle.std.specs.Prelude.{◌≡◌, ◌≢◌, ◌⊎◌, ℕ, ◌<◌, ◌≤◌, List, Some, None, IfErr, IfSome, OnOk, OnErr, IsErrOf};
 ghost use Rattle.std.specs.Io.KnownBytes.{IsAtEnd};
 ghost use Rattle.outside_io.specs.Causes.{Rose};
 ghost use Rattle.outside_io.specs.Shelf.{IsFresh};
+ghost use Rattle.zonomon_run.specs.Endings.{ModelSays};
+ghost use Rattle.zonomon_run.specs.Form.{refusal_in};
 ghost use Rattle.zonomon_run.specs.Report.{served};
 ghost use Rattle.zonomon_run.specs.Runs.{OnBytes, PutsReport, PutsFront, ReadFailed};
 ghost use Rattle.zonomon_run.specs.Whole.{IsAskedAtMost};
 
 use crate::ending::Ending;
-use crate::inputs::read_inputs;
+use crate::inputs::{read_model, read_telemetry};
+use crate::one_state::one_state;
 use crate::report::put_report;
 use outside_io::{PutFault, Shelf, Sink};
 use std::alloc::Global;
@@ -30,14 +33,25 @@ pub fn monitor<F: Shelf, O: Sink>(
     ensures read_telemetry { IsErrOf result Ending.ReadTelemetry → ReadFailed (F.faults shelf.old 1) (F.faults shelf.new 1) (F.asked shelf.new 1) telemetry.now }
     ensures write { IsErrOf result Ending.Write → Rose (O.faults out.old) (O.faults out.new) }
     ensures no_usage { IsErrOf result Ending.Usage → ⊥ }
+    ensures says { IfErr result (λ e. IfSome (F.file shelf.old model.now) (ModelSays e)) }
+    ensures accepted { OnOk result (IfSome (F.file shelf.old model.now) (λ m. refusal_in m ≡ None)) }
     ensures model_end { OnOk result (IsAtEnd (F.rest shelf.new 0)) }
     ensures telemetry_end { OnOk result (IsAtEnd (F.rest shelf.new 1)) }
     ensures asked_model { IsAskedAtMost (F.asked shelf.new 0) model.now }
     ensures asked_telemetry { IsAskedAtMost (F.asked shelf.new 1) telemetry.now }
     ensures asked_report { F.asked shelf.new 2 ≡ None }
 {
-    let (plant, value) = read_inputs(alloc, shelf, model, telemetry)?;
-    match put_report(out, &plant, value) {
+    let bank = read_model(alloc, shelf, model)?;
+    let plant = match one_state(&bank) {
+        Some(plant) => plant,
+        None => return Err(Ending::NotBuilt),
+    };
+    let column = bank.outputs().at(0).as_bytes();
+    let value = match read_telemetry(alloc, shelf, telemetry, column) {
+        Ok(value) => value,
+        Err(ending) => return Err(ending),
+    };
+    match put_report(out, bank.name(0), plant, value) {
         Ok(()) => Ok(()),
         Err(PutFault::Failed) => Err(Ending::Write),
         Err(PutFault::Memory) => Err(Ending::Memory),

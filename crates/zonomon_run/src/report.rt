@@ -6,20 +6,19 @@ ghost use Rattle.outside_io.specs.Causes.{HasCause};
 ghost use Rattle.outside_io.specs.Sink.{AppendsFront};
 ghost use Rattle.report_text.specs.Line.{put_text, lines_text, has_printable_ends};
 ghost use Rattle.report_text.specs.Seen.{line_of};
-ghost use Rattle.zonomon_run.specs.Form.{plant_of, sample_of};
-ghost use Rattle.zonomon_run.specs.Read.{seen, numbers_seen};
+ghost use Rattle.zonomon_run.specs.Form.{sample_of};
 ghost use Rattle.zonomon_run.specs.Report.{report};
 ghost use Rattle.set_rules.specs.Box.{hull as hull_of};
 ghost use Rattle.observer_step.specs.Predicted.{first_set};
 ghost use Rattle.farkas_check.specs.Certificate.{by_out};
 ghost use Rattle.report_text.specs.Line.{title, model, sample, pred, exclude, hull, status, possible, verdict, end};
 
-use crate::first_form::{Numbers, OneState};
 use crate::predict::{hull, misses, out_interval};
-use arrayvec::ArrayVec;
+use arrayvec::{ArrayString, ArrayVec};
 use farkas_check::Cert;
 use isolate_core::Verdict;
 use outside_io::{PutFault, Sink, put_all};
+use plant_model::Plant;
 use report_text::{RepLine, write_line};
 
 /// Puts a line with its line feed, or on a fault a front of both.
@@ -50,33 +49,45 @@ fn put_lines<O: Sink>(out: &mut O, lines: &[RepLine]) -> Result<(), PutFault>
 }
 
 /// Puts the whole report, or on a fault a front of it.
-pub fn put_report<O: Sink>(out: &mut O, model: &OneState, value: i128) -> Result<(), PutFault>
-    ensures ok { OnOk result (Appends (O.held out.old) (O.held out.new) (lines_text (report model.now.name.bytes (plant_of (numbers_seen model.now.numbers)) (sample_of value)))) }
-    ensures err { OnErr result (AppendsFront (O.held out.old) (O.held out.new) (lines_text (report model.now.name.bytes (plant_of (numbers_seen model.now.numbers)) (sample_of value)))) }
+pub fn put_report<O: Sink>(
+    out: &mut O,
+    name: &str,
+    plant: &Plant<1>,
+    value: i128,
+) -> Result<(), PutFault>
+    requires short { length name.now ≤ 32 }
+    requires inputs { plant.now.inputs ≡ 0 }
+    requires outputs { plant.now.outputs ≡ 1 }
+    ensures ok { OnOk result (Appends (O.held out.old) (O.held out.new) (lines_text (report name.now plant.now (sample_of value)))) }
+    ensures err { OnErr result (AppendsFront (O.held out.old) (O.held out.new) (lines_text (report name.now plant.now (sample_of value)))) }
     ensures failed { HasCause PutFault.Failed (O.faults out.old) (O.faults out.new) result }
     ensures memory { HasCause PutFault.Memory (O.wants out.old) (O.wants out.new) result }
 {
-    let ends = out_interval(&model.numbers);
-    put_lines(out, &opening(model, ends))?;
+    let _ = plant.states();
+    let ends = out_interval(plant);
+    put_lines(out, &opening(name, ends))?;
     if misses(ends, value) {
         put_lines(out, &exclusion())
     } else {
-        put_lines(out, &fit(&model.numbers))
+        put_lines(out, &fit(plant))
     }
 }
 
 /// The lines up to the predicted interval.
-fn opening(plant: &OneState, ends: (i128, i128)) -> [RepLine; 4]
+fn opening(name: &str, ends: (i128, i128)) -> [RepLine; 4]
+    requires short { length name.now ≤ 32 }
     requires low { unsigned_abs ends.0 ≤ 10 ^ 24 }
     requires high { unsigned_abs ends.1 ≤ 10 ^ 24 }
-    ensures lines { map line_of result ≡ title ∷ model 0 plant.now.name.bytes ∷ sample 0 ∷ pred 0 0 ends.0 ends.1 ∷ [] }
+    ensures lines { map line_of result ≡ title ∷ model 0 name.now ∷ sample 0 ∷ pred 0 0 ends.0 ends.1 ∷ [] }
     ensures printable { list_all (λ rep. has_printable_ends (line_of rep)) result ≡ true }
 {
+    let mut own = ArrayString::new();
+    own.push_str(name);
     [
         RepLine::Title,
         RepLine::Model {
             index: 0,
-            name: plant.name,
+            name: own,
         },
         RepLine::Sample { k: 0 },
         RepLine::Pred {
@@ -107,11 +118,11 @@ fn exclusion() -> [RepLine; 4]
 }
 
 /// The lines after the predicted interval of a model that stays.
-fn fit(numbers: &Numbers) -> [RepLine; 5]
-    ensures lines { let ends = hull_of (first_set (plant_of (numbers_seen numbers.now))) 0 in map line_of result ≡ hull 0 0 ends.0 ends.1 ∷ status 0 true ∷ possible (0 ∷ []) ∷ verdict (Verdict.Isolated 0) ∷ end 1 ∷ [] }
+fn fit(plant: &Plant<1>) -> [RepLine; 5]
+    ensures lines { let ends = hull_of (first_set plant.now) 0 in map line_of result ≡ hull 0 0 ends.0 ends.1 ∷ status 0 true ∷ possible (0 ∷ []) ∷ verdict (Verdict.Isolated 0) ∷ end 1 ∷ [] }
     ensures printable { list_all (λ rep. has_printable_ends (line_of rep)) result ≡ true }
 {
-    let (lo, hi) = hull(numbers);
+    let (lo, hi) = hull(plant);
     [
         RepLine::Hull {
             model: 0,

@@ -19,12 +19,26 @@ const USAGE: &[u8] =
 
 #[test]
 fn reports_one_model_and_one_reading(rt: HostRuntime) -> Result<(), Fail> {
-    let cases: [(&[u8], &[u8], u8, &[u8], &[u8]); 5] = [
+    let cases: [(&[u8], &[u8], u8, &[u8], &[u8]); 7] = [
         (P, b"y\n0.5\n", 0, FITS, b""),
         (P, b"y\n1.100000000\n", 0, FITS, b""),
         (P, b"y\n1.100000001\n", 0, MISSED, b""),
         (P, b"y\n0.5\n0.2\n", 8, b"", b"not built\n"),
         (TWIN, b"y0,y1\n0.5,-0.5\n", 8, b"", b"not built\n"),
+        (
+            b"version = 2\n",
+            b"y\n0.5\n",
+            2,
+            b"",
+            b"model refused: version: wrong kind\n",
+        ),
+        (
+            b"version = 1\nversion = 1\n",
+            b"y\n0.5\n",
+            2,
+            b"",
+            b"model refused: not TOML\n",
+        ),
     ];
     let alloc = rt.alloc();
     let words = vec![in alloc;
@@ -58,5 +72,18 @@ fn refuses_words_of_no_form(rt: HostRuntime) -> Result<(), Fail> {
     assert_eq!(rt; run(alloc, &words, &mut shelf, &mut out, &mut err), 1);
     assert_eq!(rt; out.held(), b"".as_slice());
     assert_eq!(rt; err.held(), USAGE);
+    Ok(())
+}
+
+#[test]
+fn tells_how_it_is_called(rt: HostRuntime) -> Result<(), Fail> {
+    let alloc = rt.alloc();
+    let words = vec![in alloc; String::from_str(alloc, "help")?]?;
+    let mut shelf = SureShelf::of(alloc);
+    let mut out = SureSink::of(alloc);
+    let mut err = SureSink::of(alloc);
+    assert_eq!(rt; run(alloc, &words, &mut shelf, &mut out, &mut err), 0);
+    assert_eq!(rt; out.held(), USAGE);
+    assert_eq!(rt; err.held(), b"".as_slice());
     Ok(())
 }

@@ -3,7 +3,7 @@ ghost use Rattle.std.specs.Prelude.{◌≡◌, ℕ, ◌≤◌, true, length, nat
 ghost use Rattle.std.specs.List.{list_all};
 ghost use Rattle.std.specs.Char.{is_ascii_digit};
 ghost use Rattle.dec_text.specs.Decimal.{number};
-ghost use Rattle.zonomon_run.specs.Words.{asked_by, texts, two_words, is_number, is_seed, is_sample_count};
+ghost use Rattle.zonomon_run.specs.Words.{asked_by, texts, one_word, two_words, three_words, is_number, is_seed, is_sample_count};
 ghost use Rattle.zonomon_run.specs.Command.{seen};
 
 /// What the words ask for.
@@ -11,6 +11,8 @@ ghost use Rattle.zonomon_run.specs.Command.{seen};
 pub enum Command<'a> {
     /// `run MODEL TELEMETRY`
     Monitor(&'a str, &'a str),
+    /// `help`
+    Help,
     /// A form that is not served yet.
     Later,
     /// No form.
@@ -21,23 +23,31 @@ pub enum Command<'a> {
 pub fn command_of(words: &[String]) -> Command<'_>
     ensures { seen result ≡ asked_by (texts words.now) }
 {
-    match words {
-        [verb] => {
-            if verb.as_str() == "help" {
-                Command::Later
-            } else {
-                Command::Faulty
-            }
-        }
-        [verb, first, second] => two_words(verb.as_str(), first.as_str(), second.as_str()),
-        [verb, _, _, _] => {
-            if verb.as_str() == "check" {
-                Command::Later
-            } else {
-                Command::Faulty
-            }
-        }
+    match words.len() {
+        1 => one_word(words[0].as_str()),
+        3 => two_words(words[0].as_str(), words[1].as_str(), words[2].as_str()),
+        4 => three_words(words[0].as_str()),
         _ => Command::Faulty,
+    }
+}
+
+fn one_word(verb: &str) -> Command<'static>
+    ensures { seen result ≡ one_word verb.now }
+{
+    if verb == "help" {
+        Command::Help
+    } else {
+        Command::Faulty
+    }
+}
+
+fn three_words(verb: &str) -> Command<'static>
+    ensures { seen result ≡ three_words verb.now }
+{
+    if verb == "check" {
+        Command::Later
+    } else {
+        Command::Faulty
     }
 }
 
