@@ -1,8 +1,6 @@
 -- The key of a column, entry by entry.
-use Rattle.std.proofs.Common.{◌≡◌, ℕ, ◌+◌, ◌<◌, ◌≤◌, ◌⊎◌, ⊎_elim, max, zero, suc, Bool, true, false, nat_lt, ◌&&◌, replicate, List, [], ◌∷◌, ◌++◌, get_or, take, length, ℤ, pos, unsigned_abs, refl, sym, ap, ◌∙◌, arith}
-use Rattle.std.proofs.lemmas.List.{take_more}
+use Rattle.std.proofs.Common.{◌≡◌, ℕ, ◌<◌, ◌≤◌, ◌⊎◌, ⊎_elim, zero, suc, Bool, true, false, nat_lt, ◌&&◌, replicate, get_or, refl, sym, ap, ◌∙◌, arith}
 use Rattle.std.proofs.lemmas.Bool.Decides.{nat_tests}
-use Rattle.set_rules.specs.Reduce.{greatest}
 
 -- no place is marked at first
 pub unmarked : (n k : ℕ) → get_or (replicate n false) k false ≡ false

@@ -1,5 +1,5 @@
 -- Shrunk columns and rows, and the gain made of them.
-use Rattle.std.proofs.Common.{◌≡◌, ℕ, ◌+◌, ◌*◌, ◌/◌, ◌^◌, ◌<◌, ◌≤◌, ◌⊎◌, ⊎_elim, max, List, [], length, map, get_or, ℤ, pos, negsuc, suc, unsigned_abs, int_div, to_z, of_z, to_z-of_z, SFits, ◌+ℤ◌, ◌*ℤ◌, refl, sym, ap, ◌∙◌, arith, le_refl, mul-le-mul}
+use Rattle.std.proofs.Common.{◌≡◌, ℕ, ◌+◌, ◌*◌, ◌/◌, ◌^◌, ◌<◌, ◌≤◌, ◌⊎◌, ⊎_elim, List, [], length, map, ℤ, pos, negsuc, suc, unsigned_abs, int_div, to_z, of_z, to_z-of_z, SFits, ◌+ℤ◌, ◌*ℤ◌, sym, ap, ◌∙◌, arith, le_refl, mul-le-mul}
 use Rattle.std.proofs.lemmas.Nat.{pow_pos}
 use Rattle.std.proofs.lemmas.List.{get_or_past, get_or-map, length-map}
 use Rattle.std.proofs.lemmas.Int.{ints}

@@ -1,5 +1,5 @@
 -- A row taken, and a zero column appended.
-use Rattle.std.proofs.Common.{◌≡◌, ℕ, zero, suc, ◌+◌, ◌*◌, ◌^◌, ◌<◌, ◌≤◌, List, [], ◌∷◌, ◌++◌, length, length-append, get_or, replicate, ℤ, pos, ◌+ℤ◌, ◌-ℤ◌, ◌*ℤ◌, ◌≤ℤ◌, unsigned_abs, to_z, of_z, SFits, Bool, true, false, ◌&&◌, int_le, IsTrue, mul-le-mul, refl, sym, ap, ◌∙◌, subst, arith}
+use Rattle.std.proofs.Common.{◌≡◌, ℕ, zero, suc, ◌+◌, ◌*◌, ◌^◌, ◌≤◌, List, [], ◌∷◌, ◌++◌, length, length-append, replicate, ℤ, pos, ◌+ℤ◌, ◌-ℤ◌, ◌*ℤ◌, ◌≤ℤ◌, unsigned_abs, to_z, of_z, Bool, true, ◌&&◌, int_le, IsTrue, mul-le-mul, refl, sym, ap, ◌∙◌, subst, arith}
 use Rattle.std.proofs.lemmas.Int.{ints, unsigned_abs-mul}
 use Rattle.std.proofs.lemmas.List.FromFn.{fill_by_all}
 use Rattle.std.proofs.lemmas.Bool.Decides.{nat_tests}
@@ -8,7 +8,7 @@ use Rattle.set_rules.specs.Sum.{total, magnitude}
 use Rattle.set_rules.specs.Symbols.{diagonal}
 use Rattle.set_rules.specs.Columns.{at, column_entry, row_magnitude, tabulate}
 use Rattle.set_rules.specs.Tests.{all_below}
-use Rattle.set_rules.specs.Zono.{Zono, reach, range, InRange}
+use Rattle.set_rules.specs.Zono.{Zono, range, InRange}
 use Rattle.set_rules.specs.Gain.{in_range, spread, is_used}
 use Rattle.set_rules.proofs.Sums.{total-more, total-same}
 use Rattle.set_rules.proofs.ImageSets.{Gives-same}

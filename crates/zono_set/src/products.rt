@@ -5,7 +5,9 @@ ghost use Rattle.set_rules.specs.Sum.{total, magnitude};
 ghost use Rattle.set_rules.specs.Columns.{at, entry, column_entry};
 ghost use Rattle.set_rules.specs.Round.{rnd as rnd_of, residue as residue_of};
 
-use fixed_mat::{Coef, Coefs, Cols, Mat, Range, Rounding, rounded, row_times_column, row_times_vector};
+use fixed_mat::{
+    Coef, Coefs, Cols, Mat, Range, Rounding, rounded, row_times_column, row_times_vector,
+};
 
 /// Row `r` of `a` times the centre, and `shift` more, rounded.
 pub fn rounded_centre<const R: usize, const N: usize>(

@@ -1,4 +1,4 @@
-use Rattle.std.proofs.Common.{◌≡◌, ◌<◌, ◌≤◌, ◌^◌, ℕ, rules, arith, subst}
+use Rattle.std.proofs.Common.{◌≡◌, ◌<◌, ◌^◌, rules, arith}
 use Rattle.row_drop.proofs.Shrinking.{least_is}
 use Rattle.row_drop.proofs.shrink.shift_below_limit.Goals as goal
 

@@ -1,5 +1,4 @@
-use Rattle.std.proofs.Common.{◌≤◌, unsigned_abs, map, ◌++◌, ◌∷◌, [], length, take, arith, rules, ap, ◌∙◌, sym, SFits, to_z-of_z, ◌^◌, ◌<◌}
-use Rattle.std.proofs.lemmas.List.{take_more, map-append}
+use Rattle.std.proofs.Common.{unsigned_abs, ap, ◌∙◌, SFits, to_z-of_z, ◌^◌}
 use mir.Syntax.{w128}
 use Rattle.set_rules.specs.Reduce.{greatest}
 use Rattle.set_rules.proofs.Greatest.{greatest-at}

@@ -1,4 +1,4 @@
-use Rattle.std.proofs.Common.{◌≡◌, ◌*◌, ◌^◌, [], length, ℤ, pos, ◌+ℤ◌, unsigned_abs, to_z, of_z, ◌&&◌, int_le, sym, ap, ◌∙◌, arith}
+use Rattle.std.proofs.Common.{[], length, pos, to_z, of_z, ◌&&◌, int_le, sym, ap, ◌∙◌, arith}
 use Rattle.std.proofs.lemmas.Int.{ints}
 use Rattle.std.proofs.lemmas.List.FromFn.{length-map-range_with_len}
 use mir.Syntax.{w128}

@@ -1,4 +1,4 @@
-use Rattle.std.proofs.Common.{◌≡◌, ℕ, ◌+◌, ◌<◌, ◌≤◌, ◌++◌, true, if◌then◌else◌, List, length, ℤ, pos, ◌+ℤ◌, ◌-ℤ◌, ◌*ℤ◌, unsigned_abs, to_z, of_z, mul-one, ap, ◌∙◌, sym, subst, arith, rules}
+use Rattle.std.proofs.Common.{◌≡◌, ℕ, ◌≤◌, ◌++◌, true, if◌then◌else◌, List, length, ℤ, pos, ◌+ℤ◌, ◌-ℤ◌, ◌*ℤ◌, unsigned_abs, to_z, of_z, mul-one, ap, ◌∙◌, sym, subst, arith, rules}
 use mir.Syntax.{w128}
 use Rattle.set_rules.specs.Symbols.{diagonal}
 use Rattle.set_rules.specs.Columns.{at, column_entry, tabulate}
@@ -43,8 +43,7 @@ same_entry g c i t = c.pad.ensures.same i t ∙ ap (λ (z : Zono). column_entry 
 
 pub take_row-requires : goal.take_row-requires
 take_row-requires g c =
-    let here = (goal.at.take_row-requires g c).After-deref in
-    (
+    let here = (goal.at.take_row-requires g c).After-deref in (
       omega arith,
       (
         omega arith,
@@ -61,8 +60,7 @@ push_radii-requires g c =
     let r : ℕ → ℤ = residue_radius c.args.gain.now (row g here) in
     let is = c.deref-2.ensures.0 ∙ c.ahead-ahead.ensures.radii in
     let long = ap length c.take_row.ensures ∙ length-tabulate (length c.args.a.now) _ in
-    let room = c.requires.room in
-    (
+    let room = c.requires.room in (
       omega arith,
       (
         ap length is ∙ length-tabulate g.row.N r,

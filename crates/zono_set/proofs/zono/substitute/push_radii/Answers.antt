@@ -1,4 +1,4 @@
-use Rattle.std.proofs.Common.{get_or, ℤ, pos, unsigned_abs, SFits, to_z-of_z, rules, ap, arith}
+use Rattle.std.proofs.Common.{get_or, ℤ, pos, SFits, to_z-of_z, rules, ap, arith}
 use mir.Syntax.{w128}
 use Rattle.set_rules.specs.Columns.{tabulate}
 use Rattle.set_rules.specs.Symbols.{diagonal}

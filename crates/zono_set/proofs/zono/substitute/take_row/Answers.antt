@@ -1,4 +1,4 @@
-use Rattle.std.proofs.Common.{◌≡◌, ℕ, ◌+◌, ◌<◌, ◌≤◌, [], length, length-append, length-drop, drop, set, get_or, List, ℤ, ◌-ℤ◌, ◌*ℤ◌, unsigned_abs, to_z, of_z, ap, ◌∙◌, sym, subst, arith}
+use Rattle.std.proofs.Common.{◌≡◌, ℕ, ◌<◌, ◌≤◌, [], length, length-append, length-drop, drop, set, get_or, List, ℤ, ◌-ℤ◌, ◌*ℤ◌, unsigned_abs, to_z, of_z, ap, ◌∙◌, sym, subst, arith}
 use mir.Syntax.{w128}
 use Rattle.set_rules.specs.Columns.{at, column_entry, tabulate}
 use Rattle.set_rules.specs.Round.{rnd}

@@ -1,4 +1,4 @@
-use Rattle.std.proofs.Common.{◌≡◌, ℕ, ◌<◌, ◌≤◌, [], length, ℤ, ◌-ℤ◌, ◌*ℤ◌, unsigned_abs, to_z, of_z, sym, ap, ◌∙◌, subst, arith}
+use Rattle.std.proofs.Common.{◌≡◌, ℕ, [], length, ℤ, ◌-ℤ◌, ◌*ℤ◌, to_z, of_z, ap, ◌∙◌, arith}
 use Rattle.std.proofs.lemmas.List.FromFn.{length-map-range_with_len}
 use mir.Syntax.{w128}
 use Rattle.set_rules.specs.Columns.{at, column_entry, tabulate}
