@@ -1,15 +1,6 @@
 -- The key of a column, entry by entry.
-use Rattle.std.proofs.Common.{◌≡◌, ℕ, ◌+◌, ◌<◌, ◌≤◌, ◌⊎◌, ⊎_elim, max, zero, suc, Bool, true, false, nat_lt, ◌&&◌, replicate, List, [], ◌∷◌, ◌++◌, get_or, take, length, ℤ, pos, unsigned_abs, refl, sym, ap, ◌∙◌, arith}
-use Rattle.std.proofs.lemmas.List.{take_more}
+use Rattle.std.proofs.Common.{◌≡◌, ℕ, ◌<◌, ◌≤◌, ◌⊎◌, ⊎_elim, zero, suc, Bool, true, false, nat_lt, ◌&&◌, replicate, get_or, refl, sym, ap, ◌∙◌, arith}
 use Rattle.std.proofs.lemmas.Bool.Decides.{nat_tests}
-use Rattle.set_rules.specs.Reduce.{greatest}
-
-greatest-push : (xs : List ℤ) (x : ℤ) → greatest (xs ++ x ∷ []) ≡ max (greatest xs) (unsigned_abs x)
-greatest-push [] x = omega arith
-greatest-push (y ∷ xs) x = let e = greatest-push xs x in omega arith
-
-pub greatest_more : (xs : List ℤ) (i : ℕ) → i < length xs → greatest (take (i + 1) xs) ≡ max (greatest (take i xs)) (unsigned_abs (get_or xs i (pos 0)))
-greatest_more xs i h = ap greatest (take_more xs i (pos 0) h) ∙ greatest-push (take i xs) (get_or xs i (pos 0))
 
 -- no place is marked at first
 pub unmarked : (n k : ℕ) → get_or (replicate n false) k false ≡ false

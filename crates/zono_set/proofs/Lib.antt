@@ -1,3 +1,4 @@
 pub mod Bound
 pub mod Steps
 pub mod Reaches
+pub mod Taken

@@ -5,7 +5,7 @@
 mod products;
 mod zono;
 
-pub use zono::{PastRange, StripRow, Zono};
+pub use zono::{PastRange, StripRow, Used, Zono};
 
 #[cfg(test)]
 mod tests;

@@ -1,11 +1,13 @@
 //! A row times a set, rounded.
 
-ghost use Rattle.std.specs.Prelude.{◌≡◌, ◌<◌, ◌≤◌, ◌^◌, length, pos, ◌≤ℤ◌, ◌+ℤ◌, ◌*ℤ◌, unsigned_abs};
+ghost use Rattle.std.specs.Prelude.{◌≡◌, ◌<◌, ◌≤◌, ◌^◌, length, pos, ◌≤ℤ◌, ◌+ℤ◌, ◌-ℤ◌, ◌*ℤ◌, ◌*◌, unsigned_abs};
 ghost use Rattle.set_rules.specs.Sum.{total, magnitude};
 ghost use Rattle.set_rules.specs.Columns.{at, entry, column_entry};
 ghost use Rattle.set_rules.specs.Round.{rnd as rnd_of, residue as residue_of};
 
-use fixed_mat::{Coef, Cols, Mat, Range, Rounding, rounded, row_times_column, row_times_vector};
+use fixed_mat::{
+    Coef, Coefs, Cols, Mat, Range, Rounding, rounded, row_times_column, row_times_vector,
+};
 
 /// Row `r` of `a` times the centre, and `shift` more, rounded.
 pub fn rounded_centre<const R: usize, const N: usize>(
@@ -75,4 +77,47 @@ pub fn row_sums<const R: usize, const N: usize>(
         left += product.residue;
     }
     RowSums { size, left }
+}
+
+/// A gain times a number of the row, rounded.
+pub fn rounded_share(gain: i128, v: i128) -> Rounding
+    requires gain { unsigned_abs gain ≤ 10 ^ 12 }
+    requires number { unsigned_abs v ≤ 10 ^ 22 }
+    ensures nearest { result.nearest ≡ rnd_of (gain *ℤ v) }
+    ensures residue { result.residue ≡ residue_of (gain *ℤ v) }
+    ensures within { unsigned_abs result.nearest ≤ 2 * 10 ^ 25 }
+    ensures low { pos 0 ≤ℤ result.residue }
+    ensures half { result.residue ≤ℤ pos 500_000_000 }
+{
+    rounded(gain * v)
+}
+
+/// Over all columns less the share that a gain takes of the row: the sum of the magnitudes in row `i`, and of what the rounding leaves.
+pub fn share_sums<const N: usize>(cols: &Cols<N>, i: usize, gain: i128, a: &Coefs) -> RowSums
+    requires row { i < N }
+    requires gain { unsigned_abs gain ≤ 10 ^ 12 }
+    ensures size { result.size ≡ total (length a.now) (λ t. magnitude (column_entry cols.now i t -ℤ rnd_of (gain *ℤ at a.now t))) }
+    ensures left { result.left ≡ total (length a.now) (λ t. residue_of (gain *ℤ at a.now t)) }
+    ensures size_low { pos 0 ≤ℤ result.size }
+    ensures size_high { result.size ≤ℤ pos (10 ^ 28) }
+    ensures left_low { pos 0 ≤ℤ result.left }
+    ensures left_high { result.left ≤ℤ pos (10 ^ 12) }
+{
+    let mut size = 0;
+    let mut left = 0;
+    for t in 0..a.len() {
+        let share = rounded_share(gain, a.at(t));
+        size += (entry_or_zero(cols, i, t) - share.nearest).abs();
+        left += share.residue;
+    }
+    RowSums { size, left }
+}
+
+/// The entry of column `t` in row `i`, 0 past the last column.
+fn entry_or_zero<const N: usize>(cols: &Cols<N>, i: usize, t: usize) -> i128
+    requires { i < N }
+    ensures value { result ≡ column_entry cols.now i t }
+    ensures within { unsigned_abs result ≤ 1_000_000_000_000_000_000 }
+{
+    if t < cols.len() { cols.at(i, t) } else { 0 }
 }

@@ -1,5 +1,5 @@
-use crate::{PastRange, Zono};
-use fixed_mat::{Coef, Cols, Mat, Range, Raw};
+use crate::{PastRange, Used, Zono};
+use fixed_mat::{Coef, Coefs, Cols, Mat, Range, Raw};
 use std::test::Fail;
 
 /// A plant of one state: half of it stays, and it is read with noise within 0.1 units.
@@ -91,5 +91,81 @@ fn an_image_past_the_range_is_refused(rt: HostRuntime) -> Result<(), Fail> {
         )
     );
     assert_eq!(rt; z.hull(0), (-1_000_001 * ONE, 1_000_001 * ONE));
+    Ok(())
+}
+
+/// The reading 0.5 of a state within 1 unit leaves 500000000 of the centre and 100000000 of a column, so one makes up for the rounding.
+#[test]
+fn a_reading_is_used(rt: HostRuntime) -> Result<(), Fail> {
+    let centre: Mat<1, 1, Range> = Mat::zero();
+    let mut radius: Mat<1, 1, Range> = Mat::zero();
+    radius.set(0, 0, ONE)?;
+    assert!(rt; radius.at(0, 0) >= 0);
+    let Ok(mut z) = Zono::of_box(&centre, &radius) else {
+        return Err("refused".into());
+    };
+    let mut a = Coefs::new();
+    a.push(ONE)?;
+    a.push(NOISE)?;
+    let mut gain: Mat<1, 1, Coef> = Mat::zero();
+    gain.set(0, 0, 990_099_009)?;
+    assert!(rt; z.cols().len() == 1);
+    assert!(rt; a.len() == 2);
+    assert_eq!(rt; z.substitute(&a, HALF, &gain), Used::Yes);
+    assert_eq!(rt; z.centre(0), 495_049_505);
+    assert_eq!(rt; z.cols().len(), 3);
+    assert_eq!(rt; z.cols().at(0, 0), 9_900_991);
+    assert_eq!(rt; z.cols().at(0, 1), -99_009_901);
+    assert_eq!(rt; z.cols().at(0, 2), 1);
+    Ok(())
+}
+
+/// The sum of the radii would grow from 54455449 to 63492070.
+#[test]
+fn a_reading_that_spreads_is_not_used(rt: HostRuntime) -> Result<(), Fail> {
+    let mut centre: Mat<1, 1, Range> = Mat::zero();
+    centre.set(0, 0, 247_524_753)?;
+    let radius: Mat<1, 1, Range> = Mat::zero();
+    let Ok(mut z) = Zono::of_box(&centre, &radius) else {
+        return Err("refused".into());
+    };
+    let mut cols: Cols<1> = Cols::new();
+    let mut a = Coefs::new();
+    for v in [4_950_496, -49_504_950, 1, 2] {
+        assert!(rt; cols.len() < 128);
+        cols.push_diagonal(0, v);
+        assert!(rt; a.len() < 128);
+        a.push(v)?;
+    }
+    assert!(rt; a.len() < 128);
+    a.push(NOISE)?;
+    assert!(rt; z.centre(0) == 247_524_753);
+    assert!(rt; cols.mag(0) == 54_455_449);
+    z.set_cols(cols);
+    let mut gain: Mat<1, 1, Coef> = Mat::zero();
+    gain.set(0, 0, 198_412_695)?;
+    assert!(rt; z.cols().len() == 4);
+    assert!(rt; a.len() == 5);
+    assert_eq!(rt; z.substitute(&a, -47_524_753, &gain), Used::No);
+    assert_eq!(rt; z.centre(0), 247_524_753);
+    assert_eq!(rt; z.cols().len(), 4);
+    assert_eq!(rt; z.cols().mag(0), 54_455_449);
+    Ok(())
+}
+
+#[test]
+fn a_new_symbol_moves_no_state(rt: HostRuntime) -> Result<(), Fail> {
+    let centre: Mat<1, 1, Range> = Mat::zero();
+    let mut radius: Mat<1, 1, Range> = Mat::zero();
+    radius.set(0, 0, ONE)?;
+    assert!(rt; radius.at(0, 0) >= 0);
+    let Ok(mut z) = Zono::of_box(&centre, &radius) else {
+        return Err("refused".into());
+    };
+    assert!(rt; z.cols().len() == 1);
+    z.add_symbol();
+    assert!(rt; z.cols().len() == 2);
+    assert_eq!(rt; z.cols().at(0, 1), 0);
+    assert_eq!(rt; z.hull(0), (-ONE, ONE));
     Ok(())
 }

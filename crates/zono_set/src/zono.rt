@@ -2,6 +2,7 @@
 
 mod image;
 mod strip;
+mod substitute;
 
 ghost use Rattle.std.specs.Prelude.{◌≡◌, ℕ, ◌+◌, ◌<◌, ◌≤◌, length, ℤ, pos, ◌+ℤ◌, ◌≤ℤ◌, unsigned_abs, IfOk, IfErr, OnOk, OnErr};
 ghost use Rattle.set_rules.specs.Sum.{magnitude};
@@ -16,6 +17,7 @@ use fixed_mat::{Cols, Mat, Range};
 use girard_reduce::reduce_in_place;
 use std::marker::Model;
 pub use strip::StripRow;
+pub use substitute::Used;
 
 /// The least state in which a set reaches past `RANGE`, and how far it reaches, in nano-units.
 #[derive(Clone, Copy, Debug)]

@@ -1,7 +1,7 @@
 use Rattle.std.proofs.Common.{get_or, pos, unsigned_abs, rules, arith, ap, ◌∙◌, SFits, to_z-of_z}
 use Rattle.std.proofs.lemmas.List.Sums.{sum_by_more}
 use mir.Syntax.{w128}
-use Rattle.girard_reduce.proofs.Keys.{greatest_more}
+use Rattle.set_rules.proofs.Greatest.{greatest_more}
 use Rattle.girard_reduce.proofs.reduction.key.Goals as goal
 
 pub loop-entry-preserved : goal.loop-entry-preserved

@@ -1,0 +1,10 @@
+//! How much of a row each state takes when the row is used up.
+#![tactic(auto)]
+
+mod gains;
+mod shrink;
+
+pub use gains::gain;
+
+#[cfg(test)]
+mod tests;

@@ -1,0 +1,91 @@
+//! Numbers brought below `2 ^ 40`, so that their products fit 128 bits.
+
+ghost use Rattle.std.specs.Prelude.{◌≡◌, ◌<◌, ◌≤◌, ◌^◌, ◌/◌, max, length, map, unsigned_abs};
+ghost use Rattle.std.specs.List.{All};
+ghost use Rattle.set_rules.specs.Reduce.{greatest};
+ghost use Rattle.set_rules.specs.Gain.{shift_below, shrunk_value, greatest_entry, gain_shift};
+
+use arrayvec::ArrayVec;
+use fixed_mat::{Coefs, Cols};
+
+/// The least number of halvings that brings every magnitude in the columns and the row below `2 ^ 40`.
+pub fn shift_of<const N: usize>(cols: &Cols<N>, a: &Coefs) -> u32
+    ensures value { result ≡ gain_shift cols.now a.now }
+    ensures small { result ≤ 88 }
+    ensures columns { greatest_entry cols.now / 2 ^ result < 2 ^ 40 }
+    ensures row { greatest a.now / 2 ^ result < 2 ^ 40 }
+{
+    shift_below_limit(greatest_in_cols(cols).max(greatest_in_coefs(a)))
+}
+
+/// The least number of halvings that brings `size` below `2 ^ 40`.
+fn shift_below_limit(size: u128) -> u32
+    ensures value { result ≡ shift_below (2 ^ 40) size }
+    ensures small { result ≤ 88 }
+    ensures below { size / 2 ^ result < 2 ^ 40 }
+{
+    for halvings in 0..88 {
+        if size >> halvings < 1_099_511_627_776 {
+            return halvings;
+        }
+    }
+    88
+}
+
+/// The greatest magnitude in the columns.
+fn greatest_in_cols<const N: usize>(cols: &Cols<N>) -> u128
+    ensures { result ≡ greatest_entry cols.now }
+{
+    let mut most = 0;
+    for t in 0..cols.len() {
+        most = greatest_in(cols.column(t)).max(most);
+    }
+    most
+}
+
+/// The greatest magnitude in a column.
+fn greatest_in(column: &[i128]) -> u128
+    ensures { result ≡ greatest column.now }
+{
+    let mut most = 0;
+    for entry in column {
+        most = entry.unsigned_abs().max(most);
+    }
+    most
+}
+
+/// The greatest magnitude of the coefficients.
+fn greatest_in_coefs(a: &Coefs) -> u128
+    ensures { result ≡ greatest a.now }
+{
+    let mut most = 0;
+    for t in 0..a.len() {
+        most = a.at(t).unsigned_abs().max(most);
+    }
+    most
+}
+
+/// `v` with its magnitude halved so often, rounded towards zero.
+pub fn shrunk(v: i128, halvings: u32) -> i64
+    requires shift { halvings ≤ 88 }
+    requires below { unsigned_abs v / 2 ^ halvings < 2 ^ 40 }
+    ensures value { result ≡ shrunk_value halvings v }
+    ensures within { unsigned_abs result < 2 ^ 40 }
+{
+    let size = (v.unsigned_abs() >> halvings) as i64;
+    if v < 0 { -size } else { size }
+}
+
+/// The coefficients, each shrunk.
+pub fn shrunk_row(a: &Coefs, halvings: u32) -> ArrayVec<i64, 128>
+    requires shift { halvings ≤ 88 }
+    requires below { greatest a.now / 2 ^ halvings < 2 ^ 40 }
+    ensures value { result.items ≡ map (shrunk_value halvings) a.now }
+    ensures small { All (λ x. unsigned_abs x < 2 ^ 40) result.items }
+{
+    let mut row = ArrayVec::new();
+    for t in 0..a.len() {
+        row.push(shrunk(a.at(t), halvings));
+    }
+    row
+}

@@ -1,0 +1,63 @@
+use crate::gain;
+use fixed_mat::{Coefs, Cols};
+use std::test::Fail;
+
+const ONE: i128 = 1_000_000_000;
+
+/// A state within 1 unit, read with noise within 0.1 units.
+#[test]
+fn a_reading_is_taken_almost_whole(rt: HostRuntime) -> Result<(), Fail> {
+    let mut cols: Cols<1> = Cols::new();
+    cols.push_diagonal(0, ONE);
+    let mut a = Coefs::new();
+    a.push(ONE)?;
+    a.push(100_000_000)?;
+    assert!(rt; cols.len() == 1);
+    assert!(rt; a.len() == 2);
+    assert_eq!(rt; gain(&cols, &a).at(0, 0), 990_099_009);
+    Ok(())
+}
+
+#[test]
+fn a_prediction_takes_less(rt: HostRuntime) -> Result<(), Fail> {
+    let mut cols: Cols<1> = Cols::new();
+    let mut a = Coefs::new();
+    for v in [4_950_496, -49_504_950, 1, 2] {
+        assert!(rt; cols.len() < 128);
+        cols.push_diagonal(0, v);
+        assert!(rt; a.len() < 128);
+        a.push(v)?;
+    }
+    assert!(rt; a.len() < 128);
+    a.push(100_000_000)?;
+    assert!(rt; cols.len() == 4);
+    assert!(rt; a.len() == 5);
+    assert_eq!(rt; gain(&cols, &a).at(0, 0), 198_412_695);
+    Ok(())
+}
+
+/// No row tells anything where every coefficient is zero.
+#[test]
+fn a_zero_row_is_not_taken(rt: HostRuntime) -> Result<(), Fail> {
+    let mut cols: Cols<1> = Cols::new();
+    cols.push_diagonal(0, ONE);
+    let mut a = Coefs::new();
+    a.push(0)?;
+    assert!(rt; cols.len() == 1);
+    assert!(rt; a.len() == 1);
+    assert_eq!(rt; gain(&cols, &a).at(0, 0), 0);
+    Ok(())
+}
+
+/// A wide state and a narrow row would make the gain 10 ^ 18.
+#[test]
+fn a_gain_is_clipped(rt: HostRuntime) -> Result<(), Fail> {
+    let mut cols: Cols<1> = Cols::new();
+    cols.push_diagonal(0, -ONE * ONE);
+    let mut a = Coefs::new();
+    a.push(ONE)?;
+    assert!(rt; cols.len() == 1);
+    assert!(rt; a.len() == 1);
+    assert_eq!(rt; gain(&cols, &a).at(0, 0), -1_000_000_000_000);
+    Ok(())
+}
