@@ -1,6 +1,8 @@
-//! A run from its files to its report: the model file, then the telemetry line by line, each sample's lines put before the next row is read.
+//! The telemetry as it comes from its slot: cut into lines piece by piece, the header, then one row after another.
 #![tactic(auto)]
 
-mod lines;
 mod rows;
 mod stream;
+
+pub use rows::{find_header, next_row};
+pub use stream::{Stream, StreamFault};
