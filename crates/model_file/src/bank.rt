@@ -7,11 +7,11 @@ use arrayvec::ArrayString;
 use plant_model::{AnyPlant, Names};
 use std::marker::Model;
 
-/// A plant with its name.
+/// A plant with its name of 1 to 32 bytes.
 #[derive(Drop)]
-pub(crate) struct NamedPlant {
-    pub(crate) name: ArrayString<32>,
-    pub(crate) plant: AnyPlant,
+pub struct NamedPlant {
+    pub name: ArrayString<32>,
+    pub plant: AnyPlant,
 }
 
 /// The names of the inputs, at most 4, and of the outputs, 1 to 6, and 1 to 16 named plants that have these counts.
@@ -96,5 +96,13 @@ impl Bank0 {
     {
         let model = &self.models[i];
         &model.plant
+    }
+
+    /// The named plants, by index.
+    pub fn into_models(self) -> Vec<NamedPlant>
+        ensures models { map named result.items ≡ self.models }
+        ensures limits { IsModels self }
+    {
+        self.models
     }
 }

@@ -11,7 +11,7 @@ mod plants;
 mod reader;
 mod reads;
 
-pub use bank::Bank0;
+pub use bank::{Bank0, NamedPlant};
 pub use fault::ModelFault;
 pub use place::{Count, Field, Path};
 pub use reader::{MOST_BYTES, read_models};
