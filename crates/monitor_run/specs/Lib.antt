@@ -1,2 +1,5 @@
 pub mod Stream
 pub mod Left
+pub mod Files
+pub mod Whole
+pub mod Outcome

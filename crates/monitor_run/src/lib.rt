@@ -1,8 +1,11 @@
-//! The telemetry as it comes from its slot: cut into lines piece by piece, the header, then one row after another.
+//! A run: the model file and the telemetry are read through their slots, and the report is put line by line as the rows come.
 #![tactic(auto)]
 
+mod done;
 mod rows;
 mod stream;
+mod whole;
 
+pub use done::{Done, RunFault};
 pub use rows::{find_header, next_row};
 pub use stream::{Stream, StreamFault};

@@ -1,0 +1,32 @@
+//! How a run ends.
+
+use model_file::ModelFault;
+use telem_csv::TelemFault;
+use thiserror::Error;
+
+/// A run that came to the end of its telemetry.
+#[derive(Clone, Copy, Debug, PartialEq, Eq)]
+pub struct Done {
+    /// How many samples there were.
+    pub samples: u64,
+}
+
+/// Why a run ended early.
+#[derive(Debug, Drop, Error)]
+pub enum RunFault {
+    /// The model file is refused.
+    #[error("the model file is refused")]
+    Model(ModelFault),
+    /// The telemetry is refused at a line.
+    #[error("the telemetry is refused")]
+    Telemetry(TelemFault),
+    /// The slot could not be read: 0 is the model file, 1 the telemetry.
+    #[error("a file cannot be read")]
+    Read { slot: usize },
+    /// The report could not be written.
+    #[error("the report cannot be written")]
+    Write,
+    /// Memory ran out.
+    #[error("out of memory")]
+    Memory,
+}
