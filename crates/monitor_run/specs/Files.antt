@@ -25,8 +25,12 @@ abbrev pub with_telemetry : Models → Telemetry → Files
 with_telemetry ms (no_header fault) = bad_header fault
 with_telemetry ms (has_header rows) = monitored ms rows
 
+-- what a telemetry says under these models
+abbrev pub files_with : Models → List ℕ → Files
+files_with ms t = with_telemetry ms (telemetry most_telemetry ms.inputs ms.outputs t)
+
 abbrev pub with_models : Result Models ModelFault → List ℕ → Files
-with_models (Ok ms) t = with_telemetry ms (telemetry most_telemetry ms.inputs ms.outputs t)
+with_models (Ok ms) t = files_with ms t
 with_models (Err fault) t = bad_model fault
 
 -- what the bytes of a model file and of a telemetry say

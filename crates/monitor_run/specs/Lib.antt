@@ -3,3 +3,5 @@ pub mod Left
 pub mod Files
 pub mod Whole
 pub mod Outcome
+pub mod Judged
+pub mod Rows

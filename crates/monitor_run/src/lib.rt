@@ -2,10 +2,13 @@
 #![tactic(auto)]
 
 mod done;
+mod model;
+mod reporting;
 mod rows;
 mod stream;
 mod whole;
 
 pub use done::{Done, RunFault};
+pub use reporting::monitor;
 pub use rows::{find_header, next_row};
 pub use stream::{Stream, StreamFault};

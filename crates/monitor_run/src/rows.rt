@@ -1,5 +1,6 @@
 //! The header and the rows of a telemetry, past its blank lines.
 ghost use Rattle.std.specs.Prelude.{◌≡◌, ◌≢◌, ℕ, ◌<◌, ◌≤◌, List, [], ◌++◌, length, false, true, IfOk, IfErr, IfSome, IfNone};
+ghost use Rattle.std.specs.Io.KnownBytes.{IsAtEnd};
 ghost use Rattle.outside_io.specs.Causes.{Rose};
 ghost use Rattle.plant_model.specs.Seen.{sample_of};
 ghost use Rattle.telem_csv.specs.Columns.{AreFor};
@@ -74,6 +75,7 @@ pub fn next_row<F: Shelf>(
     ensures going { IfOk result (λ o. IfSome o (λ s. is_refusal stream.new.cutter.last ≡ false)) }
     ensures fewer { IfOk result (λ o. IfSome o (λ s. (current stream.new.cutter).room < (current stream.old.cutter).room)) }
     ensures end { IfOk result (λ o. IfNone o (BothTold (F.rest shelf.old 1) (F.rest shelf.new 1) (λ r r'. (rows_owed head.now stream.old.cutter (left_of stream.old ++ r) ≡ no_rows) × (r' ≡ [])))) }
+    ensures at_end { IfOk result (λ o. IfNone o (IsAtEnd (F.rest shelf.new 1))) }
     ensures refused { IfErr result (λ e. (fault : TelemFault) → e ≡ StreamFault.Refused fault → BothTold (F.rest shelf.old 1) (F.rest shelf.new 1) (λ r r'. rows_owed head.now stream.old.cutter (left_of stream.old ++ r) ≡ refused_rows fault)) }
     ensures read { IfErr result (λ e. e ≡ StreamFault.Read → Rose (F.faults shelf.old 1) (F.faults shelf.new 1)) }
     ensures kept { ReadsOn (F.attached shelf.old) (F.attached shelf.new) (F.asked shelf.old) (F.asked shelf.new) (F.rest shelf.old) (F.rest shelf.new) (F.faults shelf.old) (F.faults shelf.new) }

@@ -1,5 +1,6 @@
 //! The telemetry as a stream of lines, read from its slot in pieces.
 ghost use Rattle.std.specs.Prelude.{◌≡◌, ◌≢◌, ℕ, ◌+◌, ◌<◌, ◌≤◌, List, [], ◌++◌, length, take, drop, false, true, IsTrue, IfOk, IfErr, OnErr, Some, None, slice_range};
+ghost use Rattle.std.specs.Io.KnownBytes.{IsAtEnd};
 ghost use Rattle.outside_io.specs.Causes.{Rose};
 ghost use Rattle.outside_io.specs.Shelf.{KeepsOthers};
 ghost use Rattle.telem_csv.specs.Columns.{Columns};
@@ -64,6 +65,7 @@ impl Stream {
         ensures cut { IfOk result (λ b. b ≡ true → self.new.cutter.last ≡ Fed.Line) }
         ensures fewer { IfOk result (λ b. b ≡ true → (current self.new.cutter).room < (current self.old.cutter).room) }
         ensures end { IfOk result (λ b. b ≡ false → BothTold (F.rest shelf.old 1) (F.rest shelf.new 1) (λ r r'. TellsEnd self.old.cutter (left_of self.old ++ r) × (r' ≡ []))) }
+        ensures at_end { IfOk result (λ b. b ≡ false → IsAtEnd (F.rest shelf.new 1)) }
         ensures refused { IfErr result (λ e. (fault : TelemFault) → e ≡ StreamFault.Refused fault → BothTold (F.rest shelf.old 1) (F.rest shelf.new 1) (λ r r'. TellsRefusal self.old.cutter (left_of self.old ++ r) fault)) }
         ensures read { IfErr result (λ e. e ≡ StreamFault.Read → Rose (F.faults shelf.old 1) (F.faults shelf.new 1)) }
         ensures kept { ReadsOn (F.attached shelf.old) (F.attached shelf.new) (F.asked shelf.old) (F.asked shelf.new) (F.rest shelf.old) (F.rest shelf.new) (F.faults shelf.old) (F.faults shelf.new) }
@@ -88,6 +90,7 @@ impl Stream {
         ensures bytes { IfOk result (λ b. BothTold (F.rest shelf.old 1) (F.rest shelf.new 1) (λ r r'. left_of self.old ++ r ≡ left_of self.new ++ r')) }
         ensures some { IfOk result (λ b. b ≡ true → 0 < length (left_of self.new)) }
         ensures none { IfOk result (λ b. b ≡ false → BothTold (F.rest shelf.old 1) (F.rest shelf.new 1) (λ r r'. (left_of self.new ++ r' ≡ []) × (r' ≡ []))) }
+        ensures at_end { IfOk result (λ b. b ≡ false → IsAtEnd (F.rest shelf.new 1)) }
         ensures read { IfErr result (λ e. e ≡ StreamFault.Read → Rose (F.faults shelf.old 1) (F.faults shelf.new 1)) }
         ensures not_refused { IfErr result (λ e. (fault : TelemFault) → e ≢ StreamFault.Refused fault) }
         ensures kept { ReadsOn (F.attached shelf.old) (F.attached shelf.new) (F.asked shelf.old) (F.asked shelf.new) (F.rest shelf.old) (F.rest shelf.new) (F.faults shelf.old) (F.faults shelf.new) }
@@ -107,6 +110,7 @@ impl Stream {
         ensures bytes { IfOk result (λ b. BothTold (F.rest shelf.old 1) (F.rest shelf.new 1) (λ r r'. r ≡ left_of self.new ++ r')) }
         ensures some { IfOk result (λ b. b ≡ true → 0 < length (left_of self.new)) }
         ensures none { IfOk result (λ b. b ≡ false → (left_of self.new ≡ []) × BothTold (F.rest shelf.old 1) (F.rest shelf.new 1) (λ r r'. r' ≡ [])) }
+        ensures at_end { IfOk result (λ b. b ≡ false → IsAtEnd (F.rest shelf.new 1)) }
         ensures read { IfErr result (λ e. e ≡ StreamFault.Read → Rose (F.faults shelf.old 1) (F.faults shelf.new 1)) }
         ensures not_refused { IfErr result (λ e. (fault : TelemFault) → e ≢ StreamFault.Refused fault) }
         ensures kept { ReadsOn (F.attached shelf.old) (F.attached shelf.new) (F.asked shelf.old) (F.asked shelf.new) (F.rest shelf.old) (F.rest shelf.new) (F.faults shelf.old) (F.faults shelf.new) }

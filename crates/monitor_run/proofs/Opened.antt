@@ -1,0 +1,188 @@
+-- What the rows behind a header, and the bytes of both files, say of a run.
+use Rattle.std.proofs.Common.{◌≡◌, ℕ, List, [], ◌∷◌, ◌++◌, length, Option, Some, None, IfSome, Result, Ok, Err, IfOk, IfErr, OnOk, OnErr, refl, sym, ap, ◌∙◌, subst, append_assoc}
+use Rattle.std.specs.Io.KnownBytes.{Appends}
+use Rattle.outside_io.specs.Sink.{AppendsFront}
+use Rattle.outside_io.proofs.Grows.{appends_more, appends_none}
+use Rattle.outside_io.proofs.Fronts.{front-after, front-before, whole-front, no-front}
+use Rattle.telem_csv.specs.Columns.{Columns}
+use Rattle.telem_csv.specs.Cutter.{Cutter, at_start, rows_owed, telemetry_owed}
+use Rattle.telem_csv.specs.Rows.{Rows}
+use Rattle.telem_csv.specs.Telemetry.{Telemetry as Told, no_header, has_header, telemetry}
+use Rattle.telem_csv.specs.declared.fault.TelemFault.{TelemFault}
+use Rattle.model_file.specs.Bank.{Models}
+use Rattle.model_file.specs.ModelFile.{models_of}
+use Rattle.model_bank.specs.Bank.{plants_in, names_in}
+use Rattle.report_text.specs.Line.{Line, lines_text}
+use Rattle.report_rules.specs.Lines.{head_lines}
+use Rattle.monitor_run.specs.declared.done.Done.{Done}
+use Rattle.monitor_run.specs.declared.done.RunFault.{RunFault}
+use Rattle.monitor_run.specs.declared.done.RunFault.TheVariants.{Model, Telemetry, Read, Write, Memory}
+use Rattle.monitor_run.specs.declared.stream.StreamFault.{StreamFault}
+use Rattle.monitor_run.specs.declared.stream.StreamFault.TheVariants as stream
+use Rattle.monitor_run.specs.Stream.{BothTold}
+use Rattle.monitor_run.specs.Files.{Files, bad_header, monitored, with_telemetry, files_with, with_models, files_of, model_refusal, report_of, report_of_rows, most_telemetry}
+use Rattle.monitor_run.specs.Outcome.{OnBytes, SaysOfModel, SaysOfFiles, Puts, PutsNothing}
+use Rattle.monitor_run.specs.Rows.{rows_lines, SaysOfRows, ReadsRows, ending_of}
+use Rattle.monitor_run.specs.Judged.{JudgesModel, ReadsModel}
+use Rattle.monitor_run.proofs.Models.{accepted-is}
+use Rattle.monitor_run.proofs.Turns.{told-some, lines-append}
+
+pub if-some : (o : Option (List ℕ)) (P Q : List ℕ → Type 0) → ((x : List ℕ) → P x → Q x) → IfSome o P → IfSome o Q
+if-some None P Q f h = tt
+if-some (Some x) P Q f h = f x h
+
+pub of-some : (o : Option (List ℕ)) (P : List ℕ → Type 0) → ((x : List ℕ) → P x) → IfSome o P
+of-some None P f = tt
+of-some (Some x) P f = f x
+
+-- ---- the head, and the rows behind it
+
+module _ (ms : Models) (held0 held held' : Option (List ℕ)) (put : Appends held0 held (lines_text (head_lines (names_in ms)))) where
+  abbrev head : List Line
+  head = head_lines (names_in ms)
+
+  whole : (rows : Rows) → lines_text (report_of_rows ms rows) ≡ lines_text head ++ lines_text (rows_lines (plants_in ms) rows)
+  whole rows = ap lines_text (append_assoc head _ _) ∙ lines-append head (rows_lines (plants_in ms) rows)
+
+  report-all : (rows : Rows) → Appends held held' (lines_text (rows_lines (plants_in ms) rows)) → Appends held0 held' (lines_text (report_of_rows ms rows))
+  report-all rows h = appends_more held0 held held' _ _ _ put h (whole rows)
+
+  report-front : (rows : Rows) → AppendsFront held held' (lines_text (rows_lines (plants_in ms) rows)) → AppendsFront held0 held' (lines_text (report_of_rows ms rows))
+  report-front rows h = subst (λ t. AppendsFront held0 held' t) (sym (whole rows)) (front-after held0 held held' (lines_text head) (lines_text (rows_lines (plants_in ms) rows)) put h)
+
+  pub behind-head : (r : Result Done RunFault) (rows : Rows) → IfErr r ReadsRows → Puts r held held' (rows_lines (plants_in ms) rows) → Puts r held0 held' (report_of_rows ms rows)
+  behind-head (Ok done) rows ending h = report-all rows h
+  behind-head (Err (Model fault)) rows ending h = absurd ending
+  behind-head (Err (Telemetry fault)) rows ending h = report-all rows h
+  behind-head (Err (Read slot)) rows ending h = report-front rows h
+  behind-head (Err Write) rows ending h = report-front rows h
+  behind-head (Err Memory) rows ending h = report-front rows h
+
+-- a front of the head, or all of it, is a front of the report
+pub head-front : (ms : Models) (held0 held : Option (List ℕ)) (rows : Rows) → AppendsFront held0 held (lines_text (head_lines (names_in ms))) → AppendsFront held0 held (lines_text (report_of_rows ms rows))
+head-front ms held0 held rows h =
+    let head = head_lines (names_in ms) in
+    let text : lines_text (report_of_rows ms rows) ≡ lines_text head ++ lines_text (rows_lines (plants_in ms) rows) = ap lines_text (append_assoc head _ _) ∙ lines-append head (rows_lines (plants_in ms) rows) in
+    subst (λ t. AppendsFront held0 held t) (sym text) (front-before held0 held (lines_text head) (lines_text (rows_lines (plants_in ms) rows)) h)
+
+-- ---- the telemetry, from its first byte
+
+pub rows-say : (r : Result Done RunFault) (ms : Models) (rows : Rows) → SaysOfRows r rows → SaysOfFiles r (monitored ms rows)
+rows-say (Ok done) ms rows h = h
+rows-say (Err (Model fault)) ms rows h = tt
+rows-say (Err (Telemetry fault)) ms rows h = h
+rows-say (Err (Read slot)) ms rows h = tt
+rows-say (Err Write) ms rows h = tt
+rows-say (Err Memory) ms rows h = tt
+
+module _ (ms : Models) where
+  abbrev told : List ℕ → Told
+  told t = telemetry most_telemetry ms.inputs ms.outputs t
+
+  starts : (t : List ℕ) → told t ≡ telemetry_owed ms.inputs ms.outputs (at_start most_telemetry) ([] ++ t)
+  unfolding telemetry
+  starts t = refl
+
+  module _ (P : Files → Type 0) (file rest rest' : Option (List ℕ)) (opened : rest ≡ file) where
+    from-rest : IfSome rest (λ t. P (with_telemetry ms (told t))) → IfSome file (λ t. P (with_telemetry ms (told t)))
+    from-rest h = subst (λ f. IfSome f (λ t. P (with_telemetry ms (told t)))) opened h
+
+    -- what holds of the rows behind the header holds of the file
+    pub with-rows : (rows : List ℕ → Rows) → BothTold rest rest' (λ r r'. telemetry_owed ms.inputs ms.outputs (at_start most_telemetry) ([] ++ r) ≡ has_header (rows r')) → IfSome rest' (λ r'. P (monitored ms (rows r')))
+        → IfSome file (λ t. P (with_telemetry ms (told t)))
+    with-rows rows header h = from-rest (by rest rest' header h)
+      where
+        by : (rest rest' : Option (List ℕ)) → BothTold rest rest' (λ r r'. telemetry_owed ms.inputs ms.outputs (at_start most_telemetry) ([] ++ r) ≡ has_header (rows r')) → IfSome rest' (λ r'. P (monitored ms (rows r')))
+            → IfSome rest (λ t. P (with_telemetry ms (told t)))
+        by None rest' header h = tt
+        by (Some r) None header h = absurd header
+        by (Some r) (Some r') header h = subst (λ t. P (with_telemetry ms t)) (sym (starts r ∙ header)) h
+
+    -- and what holds of a refused header
+    pub with-refusal : (fault : TelemFault) → BothTold rest rest' (λ r r'. telemetry_owed ms.inputs ms.outputs (at_start most_telemetry) ([] ++ r) ≡ no_header fault) → P (bad_header fault) → IfSome file (λ t. P (with_telemetry ms (told t)))
+    with-refusal fault header h = from-rest (told-some rest rest' (λ r r'. telemetry_owed ms.inputs ms.outputs (at_start most_telemetry) ([] ++ r) ≡ no_header fault) (λ t. P (with_telemetry ms (told t))) (λ r r' e. subst (λ t. P (with_telemetry ms t)) (sym (starts r ∙ e)) h) header)
+
+-- where no header came, nothing was put
+module _ (ms : Models) (f : StreamFault) (e : RunFault) (is : e ≡ ending_of f) (file rest rest' : Option (List ℕ)) (opened : rest ≡ file)
+    (refused : (fault : TelemFault) → f ≡ stream.Refused fault → BothTold rest rest' (λ r r'. telemetry_owed ms.inputs ms.outputs (at_start most_telemetry) ([] ++ r) ≡ no_header fault)) where
+  pub no-header-says : IfSome file (λ t. SaysOfFiles (Err e) (files_with ms t))
+  no-header-says = subst (λ e. IfSome file (λ t. SaysOfFiles (Err e) (files_with ms t))) (sym is) (by f refl)
+    where
+      by : (g : StreamFault) → f ≡ g → IfSome file (λ t. SaysOfFiles (Err (ending_of g)) (files_with ms t))
+      by (stream.Refused fault) e = with-refusal ms (SaysOfFiles (Err (Telemetry fault))) file rest rest' opened fault (refused fault e) refl
+      by stream.Read e = of-some file _ (λ t. tt)
+      by stream.Memory e = of-some file _ (λ t. tt)
+
+  pub no-header-puts : (held : Option (List ℕ)) → IfSome file (λ t. Puts (Err e) held held (report_of (files_with ms t)))
+  no-header-puts held = subst (λ e. IfSome file (λ t. Puts (Err e) held held (report_of (files_with ms t)))) (sym is) (by f refl)
+    where
+      by : (g : StreamFault) → f ≡ g → IfSome file (λ t. Puts (Err (ending_of g)) held held (report_of (files_with ms t)))
+      by (stream.Refused fault) e = with-refusal ms (λ f. Puts (Err (Telemetry fault)) held held (report_of f)) file rest rest' opened fault (refused fault e) (appends_none held)
+      by stream.Read e = of-some file _ (λ t. no-front held (lines_text (report_of (files_with ms t))))
+      by stream.Memory e = of-some file _ (λ t. no-front held (lines_text (report_of (files_with ms t))))
+
+-- ---- both files
+
+module _ (ms : Models) (model telemetry' : Option (List ℕ)) (read : IfSome model (λ m. models_of m ≡ Ok ms)) where
+  -- what holds of the telemetry under these models holds of both files
+  pub with-models : (P : Files → Type 0) → IfSome telemetry' (λ t. P (files_with ms t)) → OnBytes model telemetry' (λ m t. P (files_of m t))
+  unfolding files_of
+  with-models P h = by model read
+    where
+      by : (model : Option (List ℕ)) → IfSome model (λ m. models_of m ≡ Ok ms) → OnBytes model telemetry' (λ m t. P (with_models (models_of m) t))
+      by None read = tt
+      by (Some m) read = if-some telemetry' _ _ (λ t p. subst (λ r. P (with_models r t)) (sym read) p) h
+
+  pub accepted-says : (r : Result Done RunFault) → IfErr r ReadsRows → IfSome model (SaysOfModel r)
+  accepted-says r ending = if-some model _ _ (λ m e. by r ending (accepted-is ms m e)) read
+    where
+      by : (r : Result Done RunFault) {m : List ℕ} → IfErr r ReadsRows → model_refusal m ≡ None → SaysOfModel r m
+      by (Ok done) ending h = h
+      by (Err (Model fault)) ending h = absurd ending
+      by (Err (Telemetry fault)) ending h = h
+      by (Err (Read slot)) ending h = λ _. h
+      by (Err Write) ending h = h
+      by (Err Memory) ending h = tt
+
+  pub rows-nothing : (r : Result Done RunFault) (held held' : Option (List ℕ)) → IfErr r ReadsRows → PutsNothing r held held'
+  rows-nothing (Ok done) held held' ending = tt
+  rows-nothing (Err (Model fault)) held held' ending = absurd ending
+  rows-nothing (Err (Telemetry fault)) held held' ending = tt
+  rows-nothing (Err (Read slot)) held held' ending = λ zero. let one : slot ≡ 1 = ending in absurd cc
+  rows-nothing (Err Write) held held' ending = tt
+  rows-nothing (Err Memory) held held' ending = tt
+
+-- an ending at the model file
+module _ (e : RunFault) (ending : ReadsModel e) where
+  pub judged-says : (model : Option (List ℕ)) → IfSome model (JudgesModel e) → IfSome model (SaysOfModel (Err e))
+  judged-says model h = if-some model _ _ (λ m p. by e ending p) h
+    where
+      by : (e : RunFault) {m : List ℕ} → ReadsModel e → JudgesModel e m → SaysOfModel (Err e) m
+      by (Model fault) ending p = p
+      by (Telemetry fault) ending p = absurd ending
+      by (Read slot) ending p = λ other. absurd (other ending)
+      by Write ending p = absurd ending
+      by Memory ending p = tt
+
+  pub judged-files : (f : Files) → SaysOfFiles (Err e) f
+  judged-files f = by e ending
+    where
+      by : (e : RunFault) → ReadsModel e → SaysOfFiles (Err e) f
+      by (Model fault) ending = tt
+      by (Telemetry fault) ending = absurd ending
+      by (Read slot) ending = tt
+      by Write ending = absurd ending
+      by Memory ending = tt
+
+  pub judged-puts : (held : Option (List ℕ)) (lines : List Line) → Puts (Err e) held held lines
+  judged-puts held lines = by e ending
+    where
+      by : (e : RunFault) → ReadsModel e → Puts (Err e) held held lines
+      by (Model fault) ending = refl
+      by (Telemetry fault) ending = absurd ending
+      by (Read slot) ending = no-front held (lines_text lines)
+      by Write ending = absurd ending
+      by Memory ending = no-front held (lines_text lines)
+
+pub on-both : (model telemetry' : Option (List ℕ)) (P : List ℕ → List ℕ → Type 0) → ((m t : List ℕ) → P m t) → OnBytes model telemetry' P
+on-both model telemetry' P f = of-some model _ (λ m. of-some telemetry' _ (λ t. f m t))

@@ -1,0 +1,247 @@
+-- The turns of a run over the rows of a telemetry.
+use Rattle.std.proofs.Common.{◌≡◌, ℕ, ◌+◌, ◌≤◌, zero, suc, List, [], ◌∷◌, ◌++◌, length, Option, Some, None, IfSome, Result, Ok, Err, IfOk, IfErr, OnOk, OnErr, refl, sym, ap, ◌∙◌, subst, arith, append_assoc, append-nil, length-append, true, false, is_none}
+use Rattle.std.specs.Io.KnownBytes.{Appends}
+use Rattle.outside_io.specs.Sink.{AppendsFront}
+use Rattle.outside_io.proofs.Grows.{appends_more, appends_none}
+use Rattle.outside_io.proofs.Fronts.{front-after, front-before, whole-front}
+use Rattle.plant_model.specs.Plant.{Plant, Sample}
+use Rattle.telem_csv.specs.Columns.{Columns}
+use Rattle.telem_csv.specs.Cutter.{Cutter, rows_owed}
+use Rattle.telem_csv.specs.Rows.{Rows, no_rows, refused_rows}
+use Rattle.telem_csv.specs.declared.fault.TelemFault.{TelemFault}
+use Rattle.observer_step.specs.Answers.{zonotope_observer}
+use Rattle.model_bank.specs.Answers.{SampleAnswer, sample_answer}
+use Rattle.model_bank.specs.Bank.{Bank, BankStands}
+use Rattle.report_text.specs.Line.{Line, lines_text, put_text, end}
+use Rattle.monitor_run.proofs.Streams.{told-then}
+use Rattle.monitor_run.proofs.Later.{samples_lines-later, samples_lines-more}
+use Rattle.std.proofs.lemmas.Grind.{flat_map-append}
+use Rattle.report_rules.specs.Lines.{samples_lines, sample_lines, last_lines}
+use Rattle.monitor_run.specs.Stream.{BothTold, with_sample}
+use Rattle.outside_io.specs.declared.sink.PutFault.{PutFault}
+use Rattle.outside_io.specs.declared.sink.PutFault.TheVariants as put
+use Rattle.monitor_run.specs.declared.done.Done.{Done}
+use Rattle.monitor_run.specs.declared.done.RunFault.{RunFault}
+use Rattle.monitor_run.specs.declared.done.RunFault.TheVariants.{Model, Telemetry, Read, Write, Memory}
+use Rattle.monitor_run.specs.declared.stream.StreamFault.{StreamFault}
+use Rattle.monitor_run.specs.declared.stream.StreamFault.TheVariants as stream
+use Rattle.monitor_run.specs.Outcome.{Puts}
+use Rattle.monitor_run.specs.Rows.{rows_lines, behind, SaysOfRows, IsPutEnding, ending_of, put_ending}
+
+-- after these samples: the bank stands for them, their lines were put, and the rest of the telemetry is what it owed less these samples
+pub record Monitored (head : Columns) (bank0 bank : Bank) (c0 c : Cutter) (left0 left : List ℕ) (rest0 rest held0 held : Option (List ℕ)) (taken : List Sample) : Type 0 where
+  pub stands : (ps : List Plant) → BankStands ps [] bank0 → BankStands ps taken bank
+  pub counts : bank.count ≡ length taken
+  pub puts : (ps : List Plant) → BankStands ps [] bank0 → Appends held0 held (lines_text (samples_lines zonotope_observer ps taken (length taken)))
+  pub owes : BothTold rest0 rest (λ r r'. rows_owed head c0 (left0 ++ r) ≡ behind taken (rows_owed head c (left ++ r')))
+
+-- a claim on what was there, from what is told of it and of what is there now
+pub told-some : (a b : Option (List ℕ)) (P : List ℕ → List ℕ → Type 0) (Q : List ℕ → Type 0) → ((r r' : List ℕ) → P r r' → Q r) → BothTold a b P → IfSome a Q
+told-some None b P Q f h = tt
+told-some (Some r) None P Q f h = absurd h
+told-some (Some r) (Some r') P Q f h = f r r' h
+
+pub told-same : (a : Option (List ℕ)) (P : List ℕ → List ℕ → Type 0) → ((r : List ℕ) → P r r) → BothTold a a P
+told-same None P f = tt
+told-same (Some r) P f = f r
+
+pub lines-append : (xs ys : List Line) → lines_text (xs ++ ys) ≡ lines_text xs ++ lines_text ys
+lines-append xs ys = flat_map-append put_text xs ys
+
+-- more samples put more lines behind those of the first ones
+lines-longer : (ps : List Plant) (samples : List Sample) (n j : ℕ) → (tail : List Line) × (samples_lines zonotope_observer ps samples (n + j) ≡ samples_lines zonotope_observer ps samples n ++ tail)
+unfolding samples_lines
+lines-longer ps samples n zero = let e : n + 0 ≡ n = omega arith in ([], rw e (sym (append-nil (samples_lines zonotope_observer ps samples n))))
+lines-longer ps samples n (suc j) =
+    let before = lines-longer ps samples n j in
+    let e : n + suc j ≡ suc (n + j) = omega arith in
+    let last = sample_lines (sample_answer zonotope_observer ps samples (n + j)) in
+    (before.0 ++ last, ap (samples_lines zonotope_observer ps samples) e ∙ ap (λ ls. ls ++ last) before.1 ∙ append_assoc (samples_lines zonotope_observer ps samples n) before.0 last)
+
+-- the lines of the samples taken are a front of those of all rows
+rows-longer : (ps : List Plant) (taken : List Sample) (rows : Rows) → (tail : List Line) × (rows_lines ps (behind taken rows) ≡ samples_lines zonotope_observer ps taken (length taken) ++ tail)
+rows-longer ps taken rows =
+    let all = taken ++ rows.samples in
+    let last = last_lines (length all) (is_none rows.refusal) in
+    let more = lines-longer ps all (length taken) (length rows.samples) in
+    let whole : length all ≡ length taken + length rows.samples = length-append taken rows.samples in (
+      more.0 ++ last,
+      ap (λ n. samples_lines zonotope_observer ps all n ++ last) whole ∙ ap (λ ls. ls ++ last) more.1
+          ∙ append_assoc (samples_lines zonotope_observer ps all (length taken)) more.0 last
+          ∙ ap (λ ls. ls ++ (more.0 ++ last)) (samples_lines-later ps taken rows.samples (length taken) (omega arith)),
+    )
+
+module _ {head : Columns} {bank0 bank : Bank} {c0 c : Cutter} {left0 left : List ℕ} {rest0 rest held0 held : Option (List ℕ)} {taken : List Sample}
+    (m : Monitored head bank0 bank c0 c left0 left rest0 rest held0 held taken) where
+  module _ (ps : List Plant) (stands : BankStands ps [] bank0) where
+    -- what was put, and a front of what comes next, is a front of the whole
+    cut-short : (rows : Rows) (held' : Option (List ℕ)) (more : List Line) (tail : List Line) → rows_lines ps rows ≡ samples_lines zonotope_observer ps taken (length taken) ++ (more ++ tail)
+        → AppendsFront held held' (lines_text more) → AppendsFront held0 held' (lines_text (rows_lines ps rows))
+    cut-short rows held' more tail is put =
+        let so_far = samples_lines zonotope_observer ps taken (length taken) in
+        let text : lines_text (rows_lines ps rows) ≡ (lines_text so_far ++ lines_text more) ++ lines_text tail =
+        ap lines_text is ∙ lines-append so_far (more ++ tail) ∙ ap (λ t. lines_text so_far ++ t) (lines-append more tail) ∙ sym (append_assoc (lines_text so_far) (lines_text more) (lines_text tail)) in
+        subst (λ t. AppendsFront held0 held' t) (sym text)
+        (front-before held0 held' (lines_text so_far ++ lines_text more) (lines_text tail) (front-after held0 held held' (lines_text so_far) (lines_text more) (m.puts ps stands) put))
+
+    -- the lines put so far are a front of the whole
+    pub so-far : IfSome rest0 (λ r. AppendsFront held0 held (lines_text (rows_lines ps (rows_owed head c0 (left0 ++ r)))))
+    so-far = told-some rest0 rest (λ r r'. rows_owed head c0 (left0 ++ r) ≡ behind taken (rows_owed head c (left ++ r'))) (λ r. AppendsFront held0 held (lines_text (rows_lines ps (rows_owed head c0 (left0 ++ r)))))
+        (λ r r' e.
+        let longer = rows-longer ps taken (rows_owed head c (left ++ r')) in
+        let text = ap (λ rows. lines_text (rows_lines ps rows)) e ∙ ap lines_text longer.1 ∙ lines-append (samples_lines zonotope_observer ps taken (length taken)) longer.0 in
+        subst (λ t. AppendsFront held0 held t) (sym text) (whole-front held0 held (lines_text (samples_lines zonotope_observer ps taken (length taken))) (lines_text longer.0) (m.puts ps stands)))
+        m.owes
+
+  module _ (c' : Cutter) (left' : List ℕ) (rest' : Option (List ℕ)) (s : Sample)
+      (row : BothTold rest rest' (λ r r'. rows_owed head c (left ++ r) ≡ with_sample s (rows_owed head c' (left' ++ r')))) where
+    owes-more : BothTold rest0 rest' (λ r r'. rows_owed head c0 (left0 ++ r) ≡ behind (taken ++ s ∷ []) (rows_owed head c' (left' ++ r')))
+    owes-more = told-then rest0 rest rest' (λ r r'. rows_owed head c0 (left0 ++ r) ≡ behind taken (rows_owed head c (left ++ r'))) (λ r r'. rows_owed head c (left ++ r) ≡ with_sample s (rows_owed head c' (left' ++ r'))) (λ r r'. rows_owed head c0 (left0 ++ r) ≡ behind (taken ++ s ∷ []) (rows_owed head c' (left' ++ r')))
+        (λ x y z e f. e ∙ ap (behind taken) f ∙ moved (rows_owed head c' (left' ++ z))) m.owes row
+      where
+        moved : (rows : Rows) → behind taken (with_sample s rows) ≡ behind (taken ++ s ∷ []) rows
+        moved rows = ap (λ ss. let both : Rows = record { samples = ss; refusal = rows.refusal } in both) (sym (append_assoc taken (s ∷ []) rows.samples))
+
+    module _ (bank' : Bank) (answer : SampleAnswer) (held' : Option (List ℕ))
+        (stands' : (ps : List Plant) (samples : List Sample) → BankStands ps samples bank → BankStands ps (samples ++ s ∷ []) bank')
+        (answer-is : (ps : List Plant) (samples : List Sample) → BankStands ps samples bank → answer ≡ sample_answer zonotope_observer ps (samples ++ s ∷ []) (length samples)) where
+      -- the lines of all samples, with those of this one
+      more-lines : (ps : List Plant) → BankStands ps [] bank0 → samples_lines zonotope_observer ps (taken ++ s ∷ []) (length (taken ++ s ∷ [])) ≡ samples_lines zonotope_observer ps taken (length taken) ++ sample_lines answer
+      more-lines ps stands =
+          let n : length (taken ++ s ∷ []) ≡ length taken + 1 = length-append taken (s ∷ []) in
+          ap (samples_lines zonotope_observer ps (taken ++ s ∷ [])) n ∙ samples_lines-more ps taken s
+          ∙ ap (λ a. samples_lines zonotope_observer ps taken (length taken) ++ sample_lines a) (sym (answer-is ps taken (m.stands ps stands)))
+
+      -- one more sample was taken and its lines were put
+      pub one-more : bank'.count ≡ bank.count + 1 → Appends held held' (lines_text (sample_lines answer)) → Monitored head bank0 bank' c0 c' left0 left' rest0 rest' held0 held' (taken ++ s ∷ [])
+      one-more count put = record {
+        stands = λ ps stands. stands' ps taken (m.stands ps stands);
+        counts = count ∙ ap (λ n. n + 1) m.counts ∙ sym (length-append taken (s ∷ []));
+        puts = λ ps stands. appends_more held0 held held' _ _ _ (m.puts ps stands) put (ap lines_text (more-lines ps stands) ∙ lines-append (samples_lines zonotope_observer ps taken (length taken)) (sample_lines answer));
+        owes = owes-more;
+      }
+
+      -- a front of its lines was put
+      pub front-more : (ps : List Plant) → BankStands ps [] bank0 → AppendsFront held held' (lines_text (sample_lines answer))
+          → IfSome rest0 (λ r. AppendsFront held0 held' (lines_text (rows_lines ps (rows_owed head c0 (left0 ++ r)))))
+      front-more ps stands put = told-some rest0 rest' (λ r r'. rows_owed head c0 (left0 ++ r) ≡ behind (taken ++ s ∷ []) (rows_owed head c' (left' ++ r'))) (λ r. AppendsFront held0 held' (lines_text (rows_lines ps (rows_owed head c0 (left0 ++ r)))))
+          (λ r r' e.
+          let longer = rows-longer ps (taken ++ s ∷ []) (rows_owed head c' (left' ++ r')) in
+          cut-short ps stands (rows_owed head c0 (left0 ++ r)) held' (sample_lines answer) longer.0
+          (ap (rows_lines ps) e ∙ longer.1 ∙ ap (λ ls. ls ++ longer.0) (more-lines ps stands) ∙ append_assoc (samples_lines zonotope_observer ps taken (length taken)) (sample_lines answer) longer.0) put)
+          owes-more
+
+  -- a row was refused
+  module _ (fault : TelemFault) (rest' : Option (List ℕ)) (told : BothTold rest rest' (λ r r'. rows_owed head c (left ++ r) ≡ refused_rows fault)) where
+    refused-is : BothTold rest0 rest' (λ r r'. rows_owed head c0 (left0 ++ r) ≡ behind taken (refused_rows fault))
+    refused-is = told-then rest0 rest rest' (λ r r'. rows_owed head c0 (left0 ++ r) ≡ behind taken (rows_owed head c (left ++ r'))) (λ r r'. rows_owed head c (left ++ r) ≡ refused_rows fault) (λ r r'. rows_owed head c0 (left0 ++ r) ≡ behind taken (refused_rows fault))
+        (λ x y z e f. e ∙ ap (behind taken) f) m.owes told
+
+    pub refused-says : IfSome rest0 (λ r. (rows_owed head c0 (left0 ++ r)).refusal ≡ Some fault)
+    refused-says = told-some rest0 rest' (λ r r'. rows_owed head c0 (left0 ++ r) ≡ behind taken (refused_rows fault)) (λ r. (rows_owed head c0 (left0 ++ r)).refusal ≡ Some fault) (λ r r' e. ap (λ (rows : Rows). rows.refusal) e) refused-is
+
+    pub refused-puts : (ps : List Plant) → BankStands ps [] bank0 → IfSome rest0 (λ r. Appends held0 held (lines_text (rows_lines ps (rows_owed head c0 (left0 ++ r)))))
+    refused-puts ps stands = told-some rest0 rest' (λ r r'. rows_owed head c0 (left0 ++ r) ≡ behind taken (refused_rows fault)) (λ r. Appends held0 held (lines_text (rows_lines ps (rows_owed head c0 (left0 ++ r)))))
+        (λ r r' e.
+        let none = append-nil taken in
+        let text : rows_lines ps (rows_owed head c0 (left0 ++ r)) ≡ samples_lines zonotope_observer ps taken (length taken) =
+        ap (rows_lines ps) e ∙ append-nil (samples_lines zonotope_observer ps (taken ++ []) (length (taken ++ []))) ∙ ap (λ ss. samples_lines zonotope_observer ps ss (length ss)) none in
+        subst (λ ls. Appends held0 held (lines_text ls)) (sym text) (m.puts ps stands))
+        refused-is
+
+  -- the telemetry came to its end
+  module _ (rest' : Option (List ℕ)) (told : BothTold rest rest' (λ r r'. (rows_owed head c (left ++ r) ≡ no_rows) × (r' ≡ []))) where
+    all-is : BothTold rest0 rest' (λ r r'. rows_owed head c0 (left0 ++ r) ≡ behind taken no_rows)
+    all-is = told-then rest0 rest rest' (λ r r'. rows_owed head c0 (left0 ++ r) ≡ behind taken (rows_owed head c (left ++ r'))) (λ r r'. (rows_owed head c (left ++ r) ≡ no_rows) × (r' ≡ [])) (λ r r'. rows_owed head c0 (left0 ++ r) ≡ behind taken no_rows)
+        (λ x y z e f. e ∙ ap (behind taken) f.0) m.owes told
+
+    pub all-says : IfSome rest0 (λ r. ((rows_owed head c0 (left0 ++ r)).refusal ≡ None) × (bank.count ≡ length (rows_owed head c0 (left0 ++ r)).samples))
+    all-says = told-some rest0 rest' (λ r r'. rows_owed head c0 (left0 ++ r) ≡ behind taken no_rows) (λ r. ((rows_owed head c0 (left0 ++ r)).refusal ≡ None) × (bank.count ≡ length (rows_owed head c0 (left0 ++ r)).samples))
+        (λ r r' e. (ap (λ (rows : Rows). rows.refusal) e, m.counts ∙ sym (ap (λ (rows : Rows). length rows.samples) e ∙ ap length (append-nil taken)))) all-is
+
+    all-lines : (ps : List Plant) (rows : Rows) → rows ≡ behind taken no_rows → rows_lines ps rows ≡ samples_lines zonotope_observer ps taken (length taken) ++ (end bank.count ∷ [])
+    all-lines ps rows e = ap (rows_lines ps) e ∙ ap (λ ss. samples_lines zonotope_observer ps ss (length ss) ++ (end (length ss) ∷ [])) (append-nil taken) ∙ ap (λ n. samples_lines zonotope_observer ps taken (length taken) ++ (end n ∷ [])) (sym m.counts)
+
+    pub all-puts : (held' : Option (List ℕ)) (ps : List Plant) → BankStands ps [] bank0 → Appends held held' (lines_text (end bank.count ∷ [])) → IfSome rest0 (λ r. Appends held0 held' (lines_text (rows_lines ps (rows_owed head c0 (left0 ++ r)))))
+    all-puts held' ps stands put = told-some rest0 rest' (λ r r'. rows_owed head c0 (left0 ++ r) ≡ behind taken no_rows) (λ r. Appends held0 held' (lines_text (rows_lines ps (rows_owed head c0 (left0 ++ r)))))
+        (λ r r' e. appends_more held0 held held' _ _ _ (m.puts ps stands) put (ap lines_text (all-lines ps (rows_owed head c0 (left0 ++ r)) e) ∙ lines-append (samples_lines zonotope_observer ps taken (length taken)) (end bank.count ∷ []))) all-is
+
+    pub all-front : (held' : Option (List ℕ)) (ps : List Plant) → BankStands ps [] bank0 → AppendsFront held held' (lines_text (end bank.count ∷ [])) → IfSome rest0 (λ r. AppendsFront held0 held' (lines_text (rows_lines ps (rows_owed head c0 (left0 ++ r)))))
+    all-front held' ps stands put = told-some rest0 rest' (λ r r'. rows_owed head c0 (left0 ++ r) ≡ behind taken no_rows) (λ r. AppendsFront held0 held' (lines_text (rows_lines ps (rows_owed head c0 (left0 ++ r)))))
+        (λ r r' e.
+        let text : lines_text (rows_lines ps (rows_owed head c0 (left0 ++ r))) ≡ lines_text (samples_lines zonotope_observer ps taken (length taken)) ++ lines_text (end bank.count ∷ []) =
+        ap lines_text (all-lines ps (rows_owed head c0 (left0 ++ r)) e) ∙ lines-append (samples_lines zonotope_observer ps taken (length taken)) (end bank.count ∷ []) in
+        subst (λ t. AppendsFront held0 held' t) (sym text) (front-after held0 held held' (lines_text (samples_lines zonotope_observer ps taken (length taken))) (lines_text (end bank.count ∷ [])) (m.puts ps stands) put)) all-is
+
+-- before the first row nothing was put
+pub nothing-yet : (head : Columns) (bank : Bank) (c : Cutter) (left : List ℕ) (rest held : Option (List ℕ)) → bank.count ≡ 0 → Monitored head bank bank c c left left rest rest held held []
+unfolding samples_lines
+nothing-yet head bank c left rest held none = record {
+  stands = λ ps h. h;
+  counts = none;
+  puts = λ ps h. appends_none held;
+  owes = told-same rest _ (λ r. refl);
+}
+
+-- ---- what an ending says and puts
+
+pub put-cut : (f : PutFault) (e : RunFault) → e ≡ put_ending f → (rest held held' : Option (List ℕ)) (lines : List ℕ → List Line) → IfSome rest (λ r. AppendsFront held held' (lines_text (lines r)))
+    → IfSome rest (λ r. Puts (Err e) held held' (lines r))
+put-cut f e is rest held held' lines h = subst (λ e. IfSome rest (λ r. Puts (Err e) held held' (lines r))) (sym is) (by f)
+  where
+    by : (f : PutFault) → IfSome rest (λ r. Puts (Err (put_ending f)) held held' (lines r))
+    by put.Failed = h
+    by put.Memory = h
+
+module _ (f : StreamFault) (e : RunFault) (is : e ≡ ending_of f) (rest : Option (List ℕ)) where
+  pub telemetry-says : (rows : List ℕ → Rows) → ((fault : TelemFault) → f ≡ stream.Refused fault → IfSome rest (λ r. (rows r).refusal ≡ Some fault)) → IfSome rest (λ r. SaysOfRows (Err e) (rows r))
+  telemetry-says rows refused = subst (λ e. IfSome rest (λ r. SaysOfRows (Err e) (rows r))) (sym is) (by f refl)
+    where
+      nothing : (rest : Option (List ℕ)) → IfSome rest (λ r. Unit {0})
+      nothing None = tt
+      nothing (Some r) = tt
+
+      by : (g : StreamFault) → f ≡ g → IfSome rest (λ r. SaysOfRows (Err (ending_of g)) (rows r))
+      by (stream.Refused fault) e = refused fault e
+      by stream.Read e = nothing rest
+      by stream.Memory e = nothing rest
+
+  pub telemetry-puts : (held held' : Option (List ℕ)) (lines : List ℕ → List Line) → ((fault : TelemFault) → f ≡ stream.Refused fault → IfSome rest (λ r. Appends held held' (lines_text (lines r))))
+      → IfSome rest (λ r. AppendsFront held held' (lines_text (lines r))) → IfSome rest (λ r. Puts (Err e) held held' (lines r))
+  telemetry-puts held held' lines refused front = subst (λ e. IfSome rest (λ r. Puts (Err e) held held' (lines r))) (sym is) (by f refl)
+    where
+      by : (g : StreamFault) → f ≡ g → IfSome rest (λ r. Puts (Err (ending_of g)) held held' (lines r))
+      by (stream.Refused fault) e = refused fault e
+      by stream.Read e = front
+      by stream.Memory e = front
+
+module _ (rest : Option (List ℕ)) where
+  pub last-says : (r : Result Done RunFault) (n : ℕ) (rows : List ℕ → Rows) → IfErr r IsPutEnding → IfOk r (λ (done : Done). done.samples ≡ n) → IfSome rest (λ q. ((rows q).refusal ≡ None) × (n ≡ length (rows q).samples))
+      → IfSome rest (λ q. SaysOfRows r (rows q))
+  last-says (Ok done) n rows ending is h = some rest h
+    where
+      some : (rest : Option (List ℕ)) → IfSome rest (λ q. ((rows q).refusal ≡ None) × (n ≡ length (rows q).samples)) → IfSome rest (λ q. SaysOfRows (Ok done) (rows q))
+      some None h = tt
+      some (Some q) h = (h.0, is ∙ h.1)
+  last-says (Err (Model fault)) n rows ending is h = absurd ending
+  last-says (Err (Telemetry fault)) n rows ending is h = absurd ending
+  last-says (Err (Read slot)) n rows ending is h = absurd ending
+  last-says (Err Write) n rows ending is h = nothing rest
+    where
+      nothing : (rest : Option (List ℕ)) → IfSome rest (λ r. Unit {0})
+      nothing None = tt
+      nothing (Some r) = tt
+  last-says (Err Memory) n rows ending is h = nothing rest
+    where
+      nothing : (rest : Option (List ℕ)) → IfSome rest (λ r. Unit {0})
+      nothing None = tt
+      nothing (Some r) = tt
+
+  pub last-puts : (r : Result Done RunFault) (held held' : Option (List ℕ)) (lines : List ℕ → List Line) → IfErr r IsPutEnding → OnOk r (IfSome rest (λ q. Appends held held' (lines_text (lines q)))) → OnErr r (IfSome rest (λ q. AppendsFront held held' (lines_text (lines q))))
+      → IfSome rest (λ q. Puts r held held' (lines q))
+  last-puts (Ok done) held held' lines ending all front = all
+  last-puts (Err (Model fault)) held held' lines ending all front = absurd ending
+  last-puts (Err (Telemetry fault)) held held' lines ending all front = absurd ending
+  last-puts (Err (Read slot)) held held' lines ending all front = absurd ending
+  last-puts (Err Write) held held' lines ending all front = front
+  last-puts (Err Memory) held held' lines ending all front = front

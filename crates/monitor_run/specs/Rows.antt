@@ -1,0 +1,66 @@
+-- The rows of a telemetry, and what a run over them says and puts.
+use Rattle.std.specs.Prelude.{◌≡◌, ℕ, List, ◌++◌, length, Option, Some, None, is_none, Result, Ok, Err}
+use Rattle.plant_model.specs.Plant.{Plant, Sample}
+use Rattle.telem_csv.specs.Rows.{Rows}
+use Rattle.telem_csv.specs.declared.fault.TelemFault.{TelemFault}
+use Rattle.observer_step.specs.Answers.{zonotope_observer}
+use Rattle.outside_io.specs.declared.shelf.GetFault.{GetFault}
+use Rattle.outside_io.specs.declared.shelf.GetFault.TheVariants as get
+use Rattle.outside_io.specs.declared.sink.PutFault.{PutFault}
+use Rattle.outside_io.specs.declared.sink.PutFault.TheVariants as put
+use Rattle.report_text.specs.Line.{Line}
+use Rattle.report_rules.specs.Lines.{samples_lines, last_lines}
+use Rattle.monitor_run.specs.declared.done.Done.{Done}
+use Rattle.monitor_run.specs.declared.done.RunFault.{RunFault}
+use Rattle.monitor_run.specs.declared.done.RunFault.TheVariants.{Model, Telemetry, Read, Write, Memory}
+use Rattle.monitor_run.specs.declared.stream.StreamFault.{StreamFault}
+use Rattle.monitor_run.specs.declared.stream.StreamFault.TheVariants as stream
+
+-- the lines of a report behind its head
+abbrev pub rows_lines : List Plant → Rows → List Line
+rows_lines ps rows = samples_lines zonotope_observer ps rows.samples (length rows.samples) ++ last_lines (length rows.samples) (is_none rows.refusal)
+
+-- the samples taken, and then those of the rows to come
+abbrev pub behind : List Sample → Rows → Rows
+behind taken rows = record { samples = taken ++ rows.samples; refusal = rows.refusal }
+
+-- what a result says of the rows of the telemetry
+abbrev pub SaysOfRows : Result Done RunFault → Rows → Type 0
+SaysOfRows (Ok done) rows = (rows.refusal ≡ None) × (done.samples ≡ length rows.samples)
+SaysOfRows (Err (Model fault)) rows = Unit
+SaysOfRows (Err (Telemetry fault)) rows = rows.refusal ≡ Some fault
+SaysOfRows (Err (Read slot)) rows = Unit
+SaysOfRows (Err Write) rows = Unit
+SaysOfRows (Err Memory) rows = Unit
+
+-- an ending of reading the telemetry or of putting the report
+abbrev pub ReadsRows : RunFault → Type 0
+ReadsRows (Model fault) = ⊥
+ReadsRows (Telemetry fault) = Unit
+ReadsRows (Read slot) = slot ≡ 1
+ReadsRows Write = Unit
+ReadsRows Memory = Unit
+
+-- an ending of putting the report
+abbrev pub IsPutEnding : RunFault → Type 0
+IsPutEnding (Model fault) = ⊥
+IsPutEnding (Telemetry fault) = ⊥
+IsPutEnding (Read slot) = ⊥
+IsPutEnding Write = Unit
+IsPutEnding Memory = Unit
+
+-- how a run ends where the telemetry could not be opened
+abbrev pub attach_ending : GetFault → RunFault
+attach_ending get.Failed = Read 1
+attach_ending get.Memory = Memory
+
+-- how a run ends where the telemetry gave no line
+abbrev pub ending_of : StreamFault → RunFault
+ending_of (stream.Refused fault) = Telemetry fault
+ending_of stream.Read = Read 1
+ending_of stream.Memory = Memory
+
+-- how a run ends where the output took no more
+abbrev pub put_ending : PutFault → RunFault
+put_ending put.Failed = Write
+put_ending put.Memory = Memory

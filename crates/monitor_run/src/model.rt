@@ -1,0 +1,71 @@
+//! The model file of a run, read and judged.
+ghost use Rattle.std.specs.Prelude.{◌≡◌, ◌≢◌, ℕ, ◌≤◌, List, Some, None, Ok, Err, IfOk, IfErr, OnOk, IfSome};
+ghost use Rattle.std.specs.Io.KnownBytes.{IsAtEnd};
+ghost use Rattle.outside_io.specs.Shelf.{KeepsOthers};
+ghost use Rattle.model_file.specs.ModelFile.{models_of};
+ghost use Rattle.monitor_run.specs.Files.{model_refusal};
+ghost use Rattle.monitor_run.specs.Judged.{is_memory, JudgesModel, ReadsModel};
+ghost use Rattle.monitor_run.specs.Outcome.{ReadFailed};
+ghost use Rattle.monitor_run.specs.Whole.{IsAskedAtMost};
+
+use crate::done::RunFault;
+use crate::whole::read_whole;
+use model_file::{Bank0, ModelFault, read_models};
+use outside_io::{GetFault, Shelf};
+use std::alloc::Global;
+
+/// The longest model file, in bytes.
+const MOST_MODEL: usize = 1_048_576;
+
+/// The slot of the model file.
+const SLOT: usize = 0;
+
+/// The models of the model file, in slot 0.
+pub fn read_model<F: Shelf>(alloc: Global, shelf: &mut F, model: &str) -> Result<Bank0, RunFault>
+    requires fresh { F.asked shelf.old 0 ≡ None }
+    ensures read_all { IfOk result (λ bank. IfSome (F.file shelf.old model.now) (λ m. models_of m ≡ Ok bank)) }
+    ensures says { IfErr result (λ e. IfSome (F.file shelf.old model.now) (JudgesModel e)) }
+    ensures faults { IfErr result ReadsModel }
+    ensures read { (slot : ℕ) → result ≡ Err (RunFault.Read slot) → ReadFailed (F.faults shelf.old 0) (F.faults shelf.new 0) (F.asked shelf.new 0) model.now }
+    ensures at_end { OnOk result (IsAtEnd (F.rest shelf.new 0)) }
+    ensures asked { IsAskedAtMost (F.asked shelf.new 0) model.now }
+    ensures files { (n : List ℕ) → F.file shelf.new n ≡ F.file shelf.old n }
+    ensures others { KeepsOthers 0 (F.attached shelf.old) (F.attached shelf.new) (F.asked shelf.old) (F.asked shelf.new) (F.rest shelf.old) (F.rest shelf.new) (F.faults shelf.old) (F.faults shelf.new) }
+    ensures later { F.faults shelf.old 0 ≤ F.faults shelf.new 0 }
+{
+    let bytes = match read_whole(alloc, shelf, SLOT, model, MOST_MODEL) {
+        Ok(bytes) => bytes,
+        Err(GetFault::Failed) => return Err(RunFault::Read { slot: SLOT }),
+        Err(GetFault::Memory) => return Err(RunFault::Memory),
+    };
+    models_of(alloc, &bytes)
+}
+
+/// The models of a file's bytes, or of as many of them as are more than a model file has.
+fn models_of(alloc: Global, bytes: &[u8]) -> Result<Bank0, RunFault>
+    ensures ok { IfOk result (λ bank. models_of bytes.now ≡ Ok bank) }
+    ensures says { IfErr result (λ e. JudgesModel e bytes.now) }
+    ensures faults { IfErr result ReadsModel }
+    ensures no_read { (slot : ℕ) → result ≢ Err (RunFault.Read slot) }
+{
+    match read_models(alloc, bytes) {
+        Ok(bank) => Ok(bank),
+        Err(fault) => {
+            if is_memory(&fault) {
+                Err(RunFault::Memory)
+            } else {
+                Err(RunFault::Model(fault))
+            }
+        }
+    }
+}
+
+/// Whether memory ran out.
+fn is_memory(fault: &ModelFault) -> bool
+    ensures { result ≡ is_memory fault.now }
+{
+    match fault {
+        ModelFault::Memory => true,
+        _ => false,
+    }
+}
