@@ -2,10 +2,12 @@
 #![tactic(auto)]
 
 mod done;
+mod lines;
 mod rows;
 mod stream;
 mod whole;
 
 pub use done::{Done, RunFault};
+pub use lines::{put_end, put_head, put_sample};
 pub use rows::{find_header, next_row};
 pub use stream::{Stream, StreamFault};
