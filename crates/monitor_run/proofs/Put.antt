@@ -1,12 +1,12 @@
 -- Lines that are put one after another.
-use Rattle.std.proofs.Common.{◌≡◌, ℕ, ◌+◌, ◌<◌, List, [], ◌∷◌, ◌++◌, length, map, take, drop, get_or, flat_map, sym, ap, ◌∙◌, append-nil, arith, Option, Result, OnOk, OnErr, subst}
+use Rattle.std.proofs.Common.{◌≡◌, ℕ, ◌+◌, ◌<◌, List, [], ◌∷◌, ◌++◌, length, map, take, drop, get_or, flat_map, sym, ap, ◌∙◌, append-nil, arith, Option, Result, subst, OnErr}
 use Rattle.std.specs.List.{enumerate_from}
 use Rattle.std.proofs.lemmas.List.{take_more, take-append-drop, map-append, length-take-le}
 use Rattle.std.proofs.lemmas.Grind.{flat_map-append}
 use Rattle.std.specs.Io.KnownBytes.{Appends}
 use Rattle.outside_io.specs.Sink.{AppendsFront}
 use Rattle.outside_io.proofs.Grows.{appends_more}
-use Rattle.outside_io.proofs.Fronts.{front-after, front-before, on-ok, on-err}
+use Rattle.outside_io.proofs.Fronts.{front-after, front-before, on-err}
 use Rattle.report_text.specs.Line.{Line, put_text, lines_text}
 
 -- ---- numbered lists
@@ -74,8 +74,5 @@ pub turn-front : (a b c : Option (List ℕ)) (xs ys zs rest all : List Line) →
 turn-front a b c xs ys zs rest all e f p q = before-front a c zs rest all f (more-front a b c xs ys zs e p q)
 
 -- the last call of several: its answer is that of all
-pub last-ok : {A E : Type 0} (r : Result A E) (a b c : Option (List ℕ)) (xs ys zs : List Line) → zs ≡ xs ++ ys → Appends a b (lines_text xs) → OnOk r (Appends b c (lines_text ys)) → OnOk r (Appends a c (lines_text zs))
-last-ok r a b c xs ys zs e p q = on-ok r _ _ (more-put a b c xs ys zs e p) q
-
 pub last-err : {A E : Type 0} (r : Result A E) (a b c : Option (List ℕ)) (xs ys zs : List Line) → zs ≡ xs ++ ys → Appends a b (lines_text xs) → OnErr r (AppendsFront b c (lines_text ys)) → OnErr r (AppendsFront a c (lines_text zs))
 last-err r a b c xs ys zs e p q = on-err r _ _ (more-front a b c xs ys zs e p) q

@@ -11,3 +11,6 @@ pub use done::{Done, RunFault};
 pub use lines::{put_end, put_head, put_sample};
 pub use rows::{find_header, next_row};
 pub use stream::{Stream, StreamFault};
+
+#[cfg(test)]
+mod tests;

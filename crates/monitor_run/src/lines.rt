@@ -4,15 +4,17 @@ ghost use Rattle.std.specs.List.{list_all};
 ghost use Rattle.std.specs.Io.KnownBytes.{Appends};
 ghost use Rattle.outside_io.specs.Causes.{HasCause};
 ghost use Rattle.outside_io.specs.Sink.{AppendsFront};
+ghost use Rattle.farkas_check.specs.Certificate.{certificate_of};
 ghost use Rattle.isolate_core.specs.Verdict.{possible_models};
 ghost use Rattle.observer_step.specs.Seen.{is_printable_interval, was_widened};
 ghost use Rattle.model_bank.specs.Bank.{names_in};
 ghost use Rattle.model_bank.specs.Seen.{model_seen, sample_seen};
-ghost use Rattle.report_text.specs.Line.{lines_text, has_printable_ends, model, pred, hull, status, possible, verdict, end};
+ghost use Rattle.report_text.specs.Line.{lines_text, has_printable_ends, model, pred, exclude, hull, status, possible, verdict, end};
 ghost use Rattle.report_text.specs.Seen.{line_of};
 ghost use Rattle.report_rules.specs.Lines.{head_lines, sample_lines, model_lines, pred_lines, hull_lines, outcome_lines};
 
 use arrayvec::{ArrayString, ArrayVec};
+use farkas_check::Cert;
 use model_bank::{ModelRec, SampleRec};
 use model_file::Bank0;
 use observer_step::{Kept, Outcome};
@@ -150,18 +152,22 @@ fn put_outcome<O: Sink>(out: &mut O, rec: &ModelRec) -> Result<(), PutFault>
     ensures memory { HasCause PutFault.Memory (O.wants out.old) (O.wants out.new) result }
 {
     match rec.outcome {
-        Outcome::Excluded(cert) => put_line(
-            out,
-            &RepLine::Exclude {
-                model: rec.index,
-                cert,
-            },
-        ),
+        Outcome::Excluded(cert) => put_exclusion(out, rec.index, cert),
         Outcome::Fits => {
             put_hulls(out, rec.index, &rec.hulls)?;
             put_status(out, rec)
         }
     }
+}
+
+/// Puts that a model is excluded.
+fn put_exclusion<O: Sink>(out: &mut O, model: u32, cert: Cert) -> Result<(), PutFault>
+    ensures ok { OnOk result (Appends (O.held out.old) (O.held out.new) (lines_text (exclude model (certificate_of cert) ∷ []))) }
+    ensures err { OnErr result (AppendsFront (O.held out.old) (O.held out.new) (lines_text (exclude model (certificate_of cert) ∷ []))) }
+    ensures failed { HasCause PutFault.Failed (O.faults out.old) (O.faults out.new) result }
+    ensures memory { HasCause PutFault.Memory (O.wants out.old) (O.wants out.new) result }
+{
+    put_line(out, &RepLine::Exclude { model, cert })
 }
 
 /// Puts the hulls of a model.
