@@ -34,7 +34,8 @@ verdict_of-more (j ∷ k ∷ is) i = by (j == 0)
     by false = refl
 
 module _ (bs : List Bool) (i : ℕ) (h : i < length bs) where
-  models-more : (b : Bool) → get_or bs i false ≡ b → possible_models (take (i + 1) bs) ≡ possible_models (take i bs) ++ one_if b i
+  -- the possible ones of one more model
+  pub models-more : (b : Bool) → get_or bs i false ≡ b → possible_models (take (i + 1) bs) ≡ possible_models (take i bs) ++ one_if b i
   models-more b e =
       let long : 0 + length (take i bs) ≡ i = omega (arith, length-take i bs) in
       ap possible_models (take_more bs i false h) ∙ possible_from-more 0 i (take i bs) (get_or bs i false) long ∙ ap (λ b. possible_models (take i bs) ++ one_if b i) e

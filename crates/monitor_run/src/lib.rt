@@ -2,6 +2,7 @@
 #![tactic(auto)]
 
 mod done;
+mod lines;
 mod model;
 mod reporting;
 mod rows;
@@ -10,5 +11,6 @@ mod whole;
 
 pub use done::{Done, RunFault};
 pub use reporting::monitor;
-pub use rows::{find_header, next_row};
-pub use stream::{Stream, StreamFault};
+
+#[cfg(test)]
+mod tests;
