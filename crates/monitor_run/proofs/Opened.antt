@@ -134,15 +134,15 @@ module _ (ms : Models) (model telemetry' : Option (List ℕ)) (read : IfSome mod
       by (Some m) read = if-some telemetry' _ _ (λ t p. subst (λ r. P (with_models r t)) (sym read) p) h
 
   pub accepted-says : (r : Result Done RunFault) → IfErr r ReadsRows → IfSome model (SaysOfModel r)
-  accepted-says r ending = if-some model _ _ (λ m e. by r ending (accepted-is ms m e)) read
+  accepted-says r ending = if-some model _ _ (λ m e. by r m ending (accepted-is ms m e)) read
     where
-      by : (r : Result Done RunFault) {m : List ℕ} → IfErr r ReadsRows → model_refusal m ≡ None → SaysOfModel r m
-      by (Ok done) ending h = h
-      by (Err (Model fault)) ending h = absurd ending
-      by (Err (Telemetry fault)) ending h = h
-      by (Err (Read slot)) ending h = λ _. h
-      by (Err Write) ending h = h
-      by (Err Memory) ending h = tt
+      by : (r : Result Done RunFault) (m : List ℕ) → IfErr r ReadsRows → model_refusal m ≡ None → SaysOfModel r m
+      by (Ok done) m ending h = h
+      by (Err (Model fault)) m ending h = absurd ending
+      by (Err (Telemetry fault)) m ending h = h
+      by (Err (Read slot)) m ending h = λ _. h
+      by (Err Write) m ending h = h
+      by (Err Memory) m ending h = tt
 
   pub rows-nothing : (r : Result Done RunFault) (held held' : Option (List ℕ)) → IfErr r ReadsRows → PutsNothing r held held'
   rows-nothing (Ok done) held held' ending = tt
@@ -155,14 +155,14 @@ module _ (ms : Models) (model telemetry' : Option (List ℕ)) (read : IfSome mod
 -- an ending at the model file
 module _ (e : RunFault) (ending : ReadsModel e) where
   pub judged-says : (model : Option (List ℕ)) → IfSome model (JudgesModel e) → IfSome model (SaysOfModel (Err e))
-  judged-says model h = if-some model _ _ (λ m p. by e ending p) h
+  judged-says model h = if-some model _ _ (λ m p. by e m ending p) h
     where
-      by : (e : RunFault) {m : List ℕ} → ReadsModel e → JudgesModel e m → SaysOfModel (Err e) m
-      by (Model fault) ending p = p
-      by (Telemetry fault) ending p = absurd ending
-      by (Read slot) ending p = λ other. absurd (other ending)
-      by Write ending p = absurd ending
-      by Memory ending p = tt
+      by : (e : RunFault) (m : List ℕ) → ReadsModel e → JudgesModel e m → SaysOfModel (Err e) m
+      by (Model fault) m ending p = p
+      by (Telemetry fault) m ending p = absurd ending
+      by (Read slot) m ending p = λ other. absurd (other ending)
+      by Write m ending p = absurd ending
+      by Memory m ending p = tt
 
   pub judged-files : (f : Files) → SaysOfFiles (Err e) f
   judged-files f = by e ending

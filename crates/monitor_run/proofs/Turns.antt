@@ -14,7 +14,7 @@ use Rattle.model_bank.specs.Answers.{SampleAnswer, sample_answer}
 use Rattle.model_bank.specs.Bank.{Bank, BankStands}
 use Rattle.report_text.specs.Line.{Line, lines_text, put_text, end}
 use Rattle.monitor_run.proofs.Streams.{told-then}
-use Rattle.monitor_run.proofs.Later.{samples_lines-later, samples_lines-more}
+use Rattle.monitor_run.proofs.Later.{lines-same, lines-more}
 use Rattle.std.proofs.lemmas.Grind.{flat_map-append}
 use Rattle.report_rules.specs.Lines.{samples_lines, sample_lines, last_lines}
 use Rattle.monitor_run.specs.Stream.{BothTold, with_sample}
@@ -68,7 +68,7 @@ rows-longer ps taken rows =
       more.0 ++ last,
       ap (λ n. samples_lines zonotope_observer ps all n ++ last) whole ∙ ap (λ ls. ls ++ last) more.1
           ∙ append_assoc (samples_lines zonotope_observer ps all (length taken)) more.0 last
-          ∙ ap (λ ls. ls ++ (more.0 ++ last)) (samples_lines-later ps taken rows.samples (length taken) (omega arith)),
+          ∙ ap (λ ls. ls ++ (more.0 ++ last)) (lines-same taken rows.samples ps (length taken) (omega arith)),
     )
 
 module _ {head : Columns} {bank0 bank : Bank} {c0 c : Cutter} {left0 left : List ℕ} {rest0 rest held0 held : Option (List ℕ)} {taken : List Sample}
@@ -109,7 +109,7 @@ module _ {head : Columns} {bank0 bank : Bank} {c0 c : Cutter} {left0 left : List
       more-lines : (ps : List Plant) → BankStands ps [] bank0 → samples_lines zonotope_observer ps (taken ++ s ∷ []) (length (taken ++ s ∷ [])) ≡ samples_lines zonotope_observer ps taken (length taken) ++ sample_lines answer
       more-lines ps stands =
           let n : length (taken ++ s ∷ []) ≡ length taken + 1 = length-append taken (s ∷ []) in
-          ap (samples_lines zonotope_observer ps (taken ++ s ∷ [])) n ∙ samples_lines-more ps taken s
+          ap (samples_lines zonotope_observer ps (taken ++ s ∷ [])) n ∙ lines-more ps taken s
           ∙ ap (λ a. samples_lines zonotope_observer ps taken (length taken) ++ sample_lines a) (sym (answer-is ps taken (m.stands ps stands)))
 
       -- one more sample was taken and its lines were put

@@ -32,6 +32,7 @@ pub fn find_header<F: Shelf>(
     ensures header { IfOk result (λ h. BothTold (F.rest shelf.old 1) (F.rest shelf.new 1) (λ r r'. telemetry_owed inputs.now outputs.now stream.old.cutter (left_of stream.old ++ r) ≡ has_header (rows_owed h stream.new.cutter (left_of stream.new ++ r')))) }
     ensures counts { IfOk result (AreFor inputs.now outputs.now) }
     ensures going { IfOk result (λ h. is_refusal stream.new.cutter.last ≡ false) }
+    ensures room { IfOk result (λ h. (current stream.new.cutter).room ≤ (current stream.old.cutter).room) }
     ensures refused { IfErr result (λ e. (fault : TelemFault) → e ≡ StreamFault.Refused fault → BothTold (F.rest shelf.old 1) (F.rest shelf.new 1) (λ r r'. telemetry_owed inputs.now outputs.now stream.old.cutter (left_of stream.old ++ r) ≡ no_header fault)) }
     ensures read { IfErr result (λ e. e ≡ StreamFault.Read → Rose (F.faults shelf.old 1) (F.faults shelf.new 1)) }
     ensures kept { ReadsOn (F.attached shelf.old) (F.attached shelf.new) (F.asked shelf.old) (F.asked shelf.new) (F.rest shelf.old) (F.rest shelf.new) (F.faults shelf.old) (F.faults shelf.new) }

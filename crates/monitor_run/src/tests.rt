@@ -1,4 +1,4 @@
-use crate::put_sample;
+use crate::lines::put_sample;
 use arrayvec::ArrayVec;
 use farkas_check::Cert;
 use isolate_core::Verdict;

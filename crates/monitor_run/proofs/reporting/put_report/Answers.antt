@@ -1,4 +1,4 @@
-use Rattle.std.proofs.Common.{rules}
+use Rattle.std.proofs.Common.{◌++◌}
 use Rattle.outside_io.proofs.Fronts.{all-front}
 use Rattle.telem_csv.specs.Cutter.{rows_owed}
 use Rattle.report_text.specs.Line.{lines_text}
