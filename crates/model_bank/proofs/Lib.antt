@@ -1,0 +1,2 @@
+pub mod MemberStep
+pub mod BankStep
