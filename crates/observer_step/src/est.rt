@@ -108,6 +108,7 @@ impl<const N: usize> Est<N> {
         ensures excluded { IsSome (certificate_in result) → self.new ≡ self.old }
         ensures stands { Judges plant.now (sample_of sample.now) self.old self.new (certificate_in result) }
     {
+        let _ = plant.outputs();
         match missed(outs, &sample.y) {
             Some(o) => Outcome::Excluded(Cert::Out(o as u32)),
             None => {

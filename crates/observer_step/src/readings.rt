@@ -1,6 +1,6 @@
 //! The readings of a sample: which of them misses, and what they leave of a set.
 
-ghost use Rattle.std.specs.Prelude.{◌≡◌, ◌<◌, ◌≤◌, ◌^◌, length, pos, Some, ◌≤ℤ◌, unsigned_abs, slice_index_or};
+ghost use Rattle.std.specs.Prelude.{◌≡◌, ◌<◌, ◌≤◌, ◌^◌, length, pos, Some, IfSome, ◌≤ℤ◌, unsigned_abs, slice_index_or};
 ghost use Rattle.std.specs.List.{All};
 ghost use Rattle.set_rules.specs.Limits.{input_limit};
 ghost use Rattle.set_rules.specs.Tests.{first_below};
@@ -21,7 +21,8 @@ use zono_set::Zono;
 pub fn missed(outs: &[(i128, i128)], readings: &[Reading]) -> Option<usize>
     requires count { length readings.now ≡ length outs.now }
     requires limits { All IsReading readings.now }
-    ensures { result ≡ first_below (length outs.now) (λ o. reading_misses (slice_index_or outs.now o (pos 0, pos 0)) (known (slice_index_or readings.now o Missing))) }
+    ensures value { result ≡ first_below (length outs.now) (λ o. reading_misses (slice_index_or outs.now o (pos 0, pos 0)) (known (slice_index_or readings.now o Missing))) }
+    ensures within { IfSome result (λ o. o < length outs.now) }
 {
     for o in 0..outs.len() {
         if misses(outs[o], readings[o]) {
@@ -89,6 +90,7 @@ fn take_value<const N: usize>(
     ensures value { set.new ≡ correct_reading plant.now u.now o (Some (record { value = v; slack = slack })) set.old }
     ensures room { length set.new.columns ≤ 64 }
 {
+    let _ = plant.states();
     let row = set.strip_row(
         &plant.c_row(o),
         through(plant, u, o),
