@@ -1,18 +1,14 @@
 -- What a sample makes of a member that stands for the samples before is what the definitions say of all samples.
-use Rattle.std.proofs.Common.{◌≡◌, ℕ, zero, suc, ◌+◌, ◌-◌, ◌<◌, ◌≤◌, ℤ, List, [], ◌∷◌, ◌++◌, length, map, get_or, Option, None, Some, option_map, is_none, if◌then◌else◌, Bool, true, false, ◌&&◌, refl, sym, ap, ◌∙◌, arith, subst, eqb}
-use Rattle.std.specs.List.{All}
-use Rattle.std.proofs.lemmas.List.Elements.{All-map, All-head, All-tail}
+use Rattle.std.proofs.Common.{◌≡◌, ℕ, zero, suc, ◌-◌, ◌<◌, ◌≤◌, ℤ, List, [], ◌∷◌, ◌++◌, length, is_none, if◌then◌else◌, Bool, true, false, ◌&&◌, refl, sym, ap, ◌∙◌, arith, eqb}
 use Rattle.std.proofs.lemmas.List.{get_or_append_left, get_or_at, length_push}
 use Rattle.std.proofs.lemmas.Bool.Decides.{nat_tests}
-use Rattle.set_rules.specs.Zono.{Zono}
 use Rattle.plant_model.specs.Plant.{Plant, Sample, no_sample, sample_at}
 use Rattle.observer_step.specs.Predicted.{first_set}
 use Rattle.observer_step.specs.Estimate.{predict, correct, predicted_set, corrected_set, is_widened, leaves_range}
-use Rattle.observer_step.specs.Answers.{Answer, zonotope_observer, answer_at, certificate_at, is_live}
+use Rattle.observer_step.specs.Answers.{zonotope_observer, answer_at, certificate_at, is_live}
 use Rattle.observer_step.proofs.ExclusionHolds.{later-nothing}
-use Rattle.model_bank.specs.Answers.{ModelAnswer, answer_if, answers_from, possible_at}
 use Rattle.model_bank.specs.Bank.{Member, set_after, MemberStands}
-use Rattle.model_bank.specs.Steps.{set_ahead, widens, certificate_on, answer_on, answer_of, judged_on, member_after, answers_of}
+use Rattle.model_bank.specs.Steps.{set_ahead, widens, certificate_on, answer_on, answer_of, set_on, judged_on, member_after}
 
 -- the sample after some samples, and those before
 sample-last : (samples : List Sample) (s : Sample) → sample_at (samples ++ s ∷ []) (length samples) ≡ s
@@ -119,10 +115,10 @@ module _ (samples : List Sample) (s : Sample) (is_first : Bool) (u : List ℤ) (
 
   -- after the sample a member stands for that too
   pub member-stands : MemberStands whole (member_after is_first u s m)
-  unfolding judged_on
+  unfolding set_on
   member-stands = by m.live refl
     where
-      by : (b : Bool) → m.live ≡ b → MemberStands whole (if b then judged_on s (set_ahead is_first u m) m else m)
+      by : (b : Bool) → m.live ≡ b → MemberStands whole (if b then judged_on m.plant s (set_ahead is_first u m) else m)
       by true l =
           let z = predicted_set m.plant whole n in
           let certificate : certificate_on m.plant s (set_ahead is_first u m) ≡ certificate_at zonotope_observer m.plant whole n =

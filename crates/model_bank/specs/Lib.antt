@@ -2,3 +2,4 @@ pub mod Answers
 pub mod Seen
 pub mod Bank
 pub mod Steps
+pub mod Members

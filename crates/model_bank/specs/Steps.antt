@@ -1,5 +1,5 @@
 -- What a sample makes of the members of a bank, from what they hold. `u` are the inputs of the sample before, of which the first sample has none.
-use Rattle.std.specs.Prelude.{ℕ, ◌+◌, ℤ, Bool, false, ◌&&◌, List, [], ◌∷◌, Option, option_map, is_none, if◌then◌else◌}
+use Rattle.std.specs.Prelude.{ℕ, ◌+◌, ℤ, Bool, false, List, [], ◌∷◌, Option, option_map, is_none, if◌then◌else◌}
 use Rattle.farkas_check.specs.Certificate.{Certificate, by_out}
 use Rattle.set_rules.specs.Zono.{Zono}
 use Rattle.plant_model.specs.Plant.{Plant, Sample}
@@ -34,17 +34,17 @@ answer_on p s z is_widened = record {
 abbrev pub answer_of : Bool → List ℤ → Sample → Member → Answer
 answer_of is_first u s m = answer_on m.plant s (set_ahead is_first u m) (widens is_first u m)
 
--- a live member once its predicted set is z: where no certificate is due it stays live, and takes the readings
-unfoldable pub judged_on : Sample → Zono → Member → Member
-judged_on s z m = record {
-  plant = m.plant;
-  estimate = record { plain = if is_none (certificate_on m.plant s z) then correct m.plant s z else z };
-  live = is_none (certificate_on m.plant s z);
-}
+-- the set after the sample where z is the predicted set: it takes the readings where no certificate is due
+unfoldable pub set_on : Plant → Sample → Zono → Zono
+set_on p s z = if is_none (certificate_on p s z) then correct p s z else z
+
+-- a member that was live before the sample, where z is the predicted set: it stays live where no certificate is due
+abbrev pub judged_on : Plant → Sample → Zono → Member
+judged_on p s z = record { plant = p; estimate = record { plain = set_on p s z }; live = is_none (certificate_on p s z) }
 
 -- the member after the sample: one that is not live stays as it is
 abbrev pub member_after : Bool → List ℤ → Sample → Member → Member
-member_after is_first u s m = if m.live then judged_on s (set_ahead is_first u m) m else m
+member_after is_first u s m = if m.live then judged_on m.plant s (set_ahead is_first u m) else m
 
 -- the answers on the members that are live, where the first is model i
 abbrev pub answers_of : Bool → List ℤ → Sample → ℕ → List Member → List ModelAnswer
