@@ -1,7 +1,8 @@
 -- A bank, and the list of samples that it stands for.
-use Rattle.std.specs.Prelude.{◌≡◌, ℕ, zero, suc, ◌-◌, true, Bool, List, [], ◌∷◌, length, map, All, ℤ}
+use Rattle.std.specs.Prelude.{◌≡◌, ℕ, zero, suc, ◌-◌, ◌≤◌, true, Bool, List, length, map, All, ℤ}
 use Rattle.set_rules.specs.Zono.{Zono}
-use Rattle.plant_model.specs.Plant.{Plant, Sample, sample_at}
+use Rattle.set_rules.specs.Limits.{input_limit}
+use Rattle.plant_model.specs.Plant.{Plant, Sample, sample_at, AllWithinLimit}
 use Rattle.observer_step.specs.Predicted.{first_set}
 use Rattle.observer_step.specs.Estimate.{Estimate, corrected_set}
 use Rattle.observer_step.specs.Answers.{zonotope_observer, is_live}
@@ -20,6 +21,25 @@ pub record Bank : Type 0 where
   pub members : List Member
   pub count : ℕ
   pub last_inputs : List ℤ
+
+-- a model of so many inputs and outputs
+abbrev pub HasPlantOf : ℕ → ℕ → Member → Type 0
+HasPlantOf inputs outputs m = (m.plant.inputs ≡ inputs) × (m.plant.outputs ≡ outputs)
+
+-- at most 4 inputs, 1 to 6 outputs, 1 to 16 models of these counts; the last inputs are within their limit, and as many as there are once there was a sample
+pub record IsBank (bank : Bank) : Type 0 where
+  pub few_inputs : bank.inputs ≤ 4
+  pub some_output : 1 ≤ bank.outputs
+  pub few_outputs : bank.outputs ≤ 6
+  pub some_member : 1 ≤ length bank.members
+  pub few_members : length bank.members ≤ 16
+  pub counts : All (HasPlantOf bank.inputs bank.outputs) bank.members
+  pub last_small : AllWithinLimit input_limit bank.last_inputs
+  pub last_inputs : 1 ≤ bank.count → length bank.last_inputs ≡ bank.inputs
+
+-- a member before the first sample
+abbrev pub begun : Plant → Member
+begun p = record { plant = p; estimate = record { plain = first_set p }; live = true }
 
 -- the set of a model after these samples: where it starts, or corrected by the last of them
 abbrev pub set_after : Plant → List Sample → ℕ → Zono

@@ -1,3 +1,5 @@
 pub mod Answers
 pub mod Seen
 pub mod Bank
+pub mod Steps
+pub mod Members

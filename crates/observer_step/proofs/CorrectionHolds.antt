@@ -14,7 +14,7 @@ use Rattle.set_rules.proofs.Sums.{joined-before, joined-after}
 use Rattle.set_rules.proofs.ImageSets.{length-tabulate, by_parts, Gives-same}
 use Rattle.set_rules.proofs.Absorb.{Gives-continues}
 use Rattle.set_rules.proofs.ReductionHolds.{reduction-keeps}
-use Rattle.set_rules.proofs.SubstitutionHolds.{given-more, length-substitution}
+use Rattle.set_rules.proofs.SubstitutionHolds.{given-more}
 use Rattle.set_rules.proofs.StripHolds.{met-more}
 use Rattle.observer_step.specs.Estimate.{trim}
 

@@ -1,5 +1,5 @@
 -- Hulls contain every trajectory, a due certificate leaves none, and time changes no earlier set.
-use Rattle.std.proofs.Common.{◌≡◌, ℕ, zero, suc, ◌+◌, ◌<◌, ◌≤◌, List, ◌++◌, length, Option, Some, None, IfSome, Bool, true, false, ℤ, ◌+ℤ◌, refl, sym, ap, ◌∙◌, arith}
+use Rattle.std.proofs.Common.{◌≡◌, ℕ, zero, suc, ◌<◌, List, ◌++◌, Option, Some, None, IfSome, Bool, true, false, ◌+ℤ◌, refl, sym, ap, ◌∙◌, arith}
 use Rattle.std.proofs.lemmas.List.{get_or_append_left}
 use Rattle.set_rules.specs.Columns.{at}
 use Rattle.set_rules.specs.Strip.{Reads}

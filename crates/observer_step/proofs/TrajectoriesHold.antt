@@ -8,8 +8,7 @@ use Rattle.set_rules.specs.Zono.{Zono, Inside}
 use Rattle.set_rules.specs.Image.{IsStep}
 use Rattle.set_rules.specs.Strip.{Reads}
 use Rattle.plant_model.specs.Plant.{Plant, Present, Sample, no_sample, sample_at, reading_at, shift_of, through_of, output_row, Trajectory, states_at, disturbances_at, Obeys}
-use Rattle.observer_step.specs.Predicted.{first_set}
-use Rattle.observer_step.specs.Estimate.{state_box, trim, image_of, leaves_range, predict, correct_reading, corrected_after, correct, predicted_set, corrected_set}
+use Rattle.observer_step.specs.Estimate.{state_box, trim, image_of, leaves_range, predict, correct_reading, corrected_after, correct, predicted_set}
 use Rattle.observer_step.specs.Laws.{ReadyHolds, CorrectedHolds}
 use Rattle.set_rules.proofs.ImageSets.{image-encloses}
 use Rattle.set_rules.proofs.ReductionHolds.{reduction-keeps}

@@ -1,10 +1,10 @@
 -- What the definitions say of one model at a sample.
-use Rattle.std.specs.Prelude.{ℕ, zero, suc, ℤ, Bool, true, ◌&&◌, is_none, is_some, List, [], Option, option_map, if◌then◌else◌}
+use Rattle.std.specs.Prelude.{◌≡◌, ℕ, zero, suc, ℤ, Bool, true, ◌&&◌, is_none, List, [], ◌∷◌, ◌++◌, length, Option, None, option_map, if◌then◌else◌}
 use Rattle.farkas_check.specs.Certificate.{Certificate, by_out}
 use Rattle.set_rules.specs.Zono.{Zono}
 use Rattle.plant_model.specs.Plant.{Plant, Sample, sample_at}
 use Rattle.observer_step.specs.Predicted.{predicted_outs, hulls, due}
-use Rattle.observer_step.specs.Estimate.{predicted_set, corrected_set, is_widened}
+use Rattle.observer_step.specs.Estimate.{predicted_set, corrected_set, is_widened, Estimate, StandsReady, StandsCorrected}
 
 -- the predicted output intervals; whether the model was widened; its certificate, if it is excluded; and else the hulls of its states
 pub record Answer : Type 0 where
@@ -40,3 +40,8 @@ answer_at o p samples k = record {
 unfoldable pub is_live : Observer → Plant → List Sample → ℕ → Bool
 is_live o p samples zero = true
 is_live o p samples (suc k) = is_live o p samples k && is_none (certificate_at o p samples k)
+
+-- where e is ready for the sample s after some samples, the certificate is the one that is due there; and if there is none, e' is corrected by s
+abbrev pub Judges : Plant → Sample → Estimate → Estimate → Option Certificate → Type 0
+Judges p s e e' cert = (samples : List Sample) → StandsReady p samples e
+    → (cert ≡ certificate_at zonotope_observer p (samples ++ s ∷ []) (length samples)) × (cert ≡ None → StandsCorrected p (samples ++ s ∷ []) e')

@@ -77,3 +77,12 @@ StandsReady p samples e = e.plain ≡ predicted_set p samples (length samples)
 pub record StandsCorrected (p : Plant) (samples : List Sample) (e : Estimate) : Type 0 where
   pub some : 1 ≤ length samples
   pub is : e.plain ≡ corrected_set p samples (length samples - 1)
+
+-- room for an image of a set reduced to 48 columns, and for the row of a reading
+abbrev pub HasRoom : Estimate → Type 0
+HasRoom e = length e.plain.columns ≤ 64
+
+-- where e is corrected by samples that end with the inputs u, e' has the set predicted from there, and the test says whether that is the state box
+abbrev pub LeadsOn : Plant → List ℤ → Estimate → Estimate → Bool → Type 0
+LeadsOn p u e e' test = (samples : List Sample) → StandsCorrected p samples e → (sample_at samples (length samples - 1)).inputs ≡ u
+    → StandsReady p samples e' × (test ≡ is_widened p samples (length samples))

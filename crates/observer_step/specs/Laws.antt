@@ -1,5 +1,5 @@
 -- The laws of the estimate: every trajectory stays inside, and where a certificate is due there is none.
-use Rattle.std.specs.Prelude.{◌≡◌, ℕ, ◌+◌, ◌<◌, ◌≤◌, List, ◌++◌, length, take, Some}
+use Rattle.std.specs.Prelude.{◌≡◌, ℕ, ◌<◌, ◌≤◌, List, ◌++◌, length, take, Some}
 use Rattle.set_rules.specs.Columns.{at}
 use Rattle.set_rules.specs.Zono.{Inside}
 use Rattle.set_rules.specs.Box.{hull, IsBetween}

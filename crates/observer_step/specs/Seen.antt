@@ -1,5 +1,5 @@
 -- What the code says of one model at a sample, as the definitions see it.
-use Rattle.std.specs.Prelude.{ℕ, ℤ, Bool, true, false, nat_le, ◌^◌, ◌&&◌, unsigned_abs, Option, Some, None}
+use Rattle.std.specs.Prelude.{ℤ, Bool, true, false, nat_le, ◌^◌, ◌&&◌, unsigned_abs, Option, Some, None}
 use Rattle.farkas_check.specs.Certificate.{Certificate, certificate_of}
 use Rattle.observer_step.specs.declared.outcome.Kept.{Kept}
 use Rattle.observer_step.specs.declared.outcome.Kept.TheVariants.{Imaged, Widened}

@@ -1,6 +1,10 @@
 //! The observer of one model: what its sets predict of a sample, and what a sample says of it.
 #![tactic(auto)]
 
+mod est;
+mod inputs;
 mod outcome;
+mod readings;
 
+pub use est::Est;
 pub use outcome::{Kept, Outcome};

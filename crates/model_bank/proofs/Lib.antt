@@ -1,0 +1,5 @@
+pub mod MemberStep
+pub mod BankStep
+pub mod Judged
+pub mod Taking
+pub mod BankBegun

@@ -1,0 +1,131 @@
+//! One model of a bank, of a plant of `N` states.
+
+ghost use Rattle.std.specs.Prelude.{◌≡◌, ◌≤◌, true, false, Some, None, length, is_none, option_map, if◌then◌else◌};
+ghost use Rattle.std.specs.List.{list_all};
+ghost use Rattle.set_rules.specs.Limits.{input_limit};
+ghost use Rattle.plant_model.specs.Plant.{AllWithinLimit};
+ghost use Rattle.plant_model.specs.Seen.{sample_of};
+ghost use Rattle.observer_step.specs.Predicted.{hulls as hulls_of};
+ghost use Rattle.observer_step.specs.Seen.{was_widened, certificate_in, is_printable_interval};
+ghost use Rattle.model_bank.specs.Bank.{begun};
+ghost use Rattle.model_bank.specs.Seen.{model_seen};
+ghost use Rattle.model_bank.specs.Steps.{answer_on, answer_of, set_on, member_after};
+
+use crate::ModelRec;
+use arrayvec::ArrayVec;
+use observer_step::{Est, Kept, Outcome};
+use plant_model::{Plant, Sample};
+use std::marker::Model;
+
+/// A plant of `N` states, its estimate, and whether it fits every sample so far.
+#[derive(Drop)]
+pub struct Follower<const N: usize> {
+    plant: Plant<N>,
+    estimate: Est<N>,
+    live: bool,
+}
+
+impl<const N: usize> Model for Follower<N> {
+    ghost use Rattle.model_bank.specs.Bank.{Member as TheMember};
+
+    ghost Value = { TheMember };
+
+    ghost view = { λ f. record { plant = f.plant; estimate = f.estimate; live = f.live } };
+}
+
+impl<const N: usize> Follower<N> {
+    /// The model before the first sample.
+    pub fn begin(plant: Plant<N>) -> Follower<N>
+        ensures { result ≡ begun plant.entry }
+    {
+        let estimate = Est::begin(&plant);
+        Follower {
+            plant,
+            estimate,
+            live: true,
+        }
+    }
+
+    /// Whether it fits every sample so far.
+    pub fn is_live(&self) -> bool
+        ensures { result ≡ self.now.live }
+    {
+        self.live
+    }
+
+    /// What a sample makes of the model, where it is live; `last` are the inputs of the sample before, which the first has not.
+    pub fn take(
+        &mut self,
+        index: u32,
+        is_first: bool,
+        last: &ArrayVec<i128, 4>,
+        sample: &Sample,
+    ) -> Option<ModelRec>
+        requires inputs { length sample.now.u.items ≡ self.old.plant.inputs }
+        requires outputs { length sample.now.y.items ≡ self.old.plant.outputs }
+        requires last_inputs { is_first ≡ false → length last.now.items ≡ self.old.plant.inputs }
+        requires last_small { AllWithinLimit input_limit last.now.items }
+        ensures answer { option_map model_seen result ≡ (if self.old.live then Some (record { index = index; answer = answer_of is_first last.now.items (sample_of sample.now) self.old }) else None) }
+        ensures member { self.new ≡ member_after is_first last.now.items (sample_of sample.now) self.old }
+    {
+        if !self.live {
+            return None;
+        }
+        let kept = if is_first {
+            Kept::Imaged
+        } else {
+            self.estimate.predict(&self.plant, last)
+        };
+        let model = judge(&self.plant, &mut self.estimate, index, kept, sample);
+        self.live = fits(&model.outcome);
+        Some(model)
+    }
+}
+
+/// What a sample makes of a model whose estimate is the predicted set.
+fn judge<const N: usize>(
+    plant: &Plant<N>,
+    estimate: &mut Est<N>,
+    index: u32,
+    kept: Kept,
+    sample: &Sample,
+) -> ModelRec
+    requires inputs { length sample.now.u.items ≡ plant.now.inputs }
+    requires outputs { length sample.now.y.items ≡ plant.now.outputs }
+    ensures answer { model_seen result ≡ record { index = index; answer = answer_on plant.now (sample_of sample.now) estimate.old.plain (was_widened kept) } }
+    ensures set { estimate.new.plain ≡ set_on plant.now (sample_of sample.now) estimate.old.plain }
+{
+    let preds = estimate.outs(plant, &sample.u);
+    let outcome = estimate.correct_by(plant, sample, &preds);
+    let hulls = if fits(&outcome) {
+        hulls(plant, estimate)
+    } else {
+        ArrayVec::new()
+    };
+    ModelRec {
+        index,
+        preds,
+        kept,
+        outcome,
+        hulls,
+    }
+}
+
+/// Whether a sample leaves a model possible.
+fn fits(outcome: &Outcome) -> bool
+    ensures { result ≡ is_none (certificate_in outcome.now) }
+{
+    matches!(outcome, Outcome::Fits)
+}
+
+/// The hull of each state.
+fn hulls<const N: usize>(plant: &Plant<N>, estimate: &Est<N>) -> ArrayVec<(i128, i128), 8>
+    ensures value { result.items ≡ hulls_of plant.now estimate.now.plain }
+    ensures printable { list_all is_printable_interval result.items ≡ true }
+{
+    let mut hulls = ArrayVec::new();
+    for i in 0..plant.states() {
+        hulls.push(estimate.hull(i));
+    }
+    hulls
+}

@@ -1,0 +1,57 @@
+-- A set moved one sample on: which of both ways it goes, and what it is then.
+use Rattle.std.proofs.Common.{◌≡◌, ℕ, ◌-◌, ◌<◌, suc, List, length, Bool, true, false, not, if◌then◌else◌, ℤ, refl, sym, ap, ◌∙◌, arith}
+use Rattle.std.proofs.lemmas.Int.{ints}
+use Rattle.set_rules.specs.Zono.{Zono, InRange}
+use Rattle.set_rules.specs.Reduce.{reduce_set}
+use Rattle.set_rules.specs.Image.{image, IsFirstPast}
+use Rattle.set_rules.specs.Gain.{in_range}
+use Rattle.set_rules.proofs.TestsHold.{in_range-tests}
+use Rattle.plant_model.specs.Plant.{Plant, shift_of}
+use Rattle.observer_step.specs.Estimate.{trim, image_of, leaves_range, state_box, predict, predicted_set, is_widened, Estimate, LeadsOn}
+
+-- a set that reaches past the range fails its test
+past-fails : (n : ℕ) (z : Zono) (i : ℕ) (mag : ℤ) → i < n → IsFirstPast z i mag → in_range n z ≡ false
+past-fails n z i mag h first = by (in_range n z) refl
+  where
+    by : (b : Bool) → in_range n z ≡ b → b ≡ false
+    by true e =
+        let small = (in_range-tests n z).0 e i h in
+        let is = first.is in
+        let past = first.past in
+        absurd (omega (arith, ints))
+    by false e = refl
+
+module _ (p : Plant) (u : List ℤ) (z : Zono) (n : ℕ) (states : p.states ≡ n) (a shift e : List ℤ) (w : ℕ) (a_is : a ≡ p.a) (shift_is : shift ≡ shift_of p u) (e_is : e ≡ p.e) (w_is : w ≡ p.disturbances)
+    (reduced : Zono) (reduced_is : reduced ≡ reduce_set n 48 z) where
+  same-image : image n w a shift e reduced ≡ image_of p u (trim p.states z)
+  same-image =
+      let trimmed : reduced ≡ trim p.states z = reduced_is ∙ ap (λ m. reduce_set m 48 z) (sym states) in
+      λ i. image (sym states i) (w_is i) (a_is i) (shift_is i) (e_is i) (trimmed i)
+
+  tested : (b : Bool) → in_range n (image n w a shift e reduced) ≡ b → leaves_range p u z ≡ not b
+  tested b test = ap not ((λ i. in_range (states i) (sym same-image i)) ∙ test)
+
+  pub image-stays : InRange n (image n w a shift e reduced) → leaves_range p u z ≡ false
+  image-stays fits = tested true ((in_range-tests n (image n w a shift e reduced)).1 fits)
+
+  pub image-leaves : (i : ℕ) (mag : ℤ) → i < n → IsFirstPast (image n w a shift e reduced) i mag → leaves_range p u z ≡ true
+  image-leaves i mag h first = tested false (past-fails n (image n w a shift e reduced) i mag h first)
+
+  pub imaged : (new : Zono) → new ≡ image n w a shift e reduced → leaves_range p u z ≡ false → new ≡ predict p u z
+  unfolding predict
+  imaged new is stays = is ∙ same-image ∙ sym (ap (λ b. if b then state_box p else image_of p u (trim p.states z)) stays)
+
+pub widened : (p : Plant) (u : List ℤ) (z new : Zono) → new ≡ state_box p → leaves_range p u z ≡ true → new ≡ predict p u z
+unfolding predict
+widened p u z new is leaves = is ∙ sym (ap (λ b. if b then state_box p else image_of p u (trim p.states z)) leaves)
+
+-- what is predicted of a corrected set is the set predicted at the next sample
+pub leads-on : (p : Plant) (u : List ℤ) (e e' : Estimate) (test : Bool) → e'.plain ≡ predict p u e.plain → test ≡ leaves_range p u e.plain → LeadsOn p u e e' test
+unfolding predicted_set
+leads-on p u e e' test new_is test_is samples corrected last =
+    let some = corrected.some in
+    let next : suc (length samples - 1) ≡ length samples = omega arith in
+    let set = corrected.is in (
+      new_is ∙ (λ i. predict p (sym last i) (set i)) ∙ ap (predicted_set p samples) next,
+      test_is ∙ (λ i. leaves_range p (sym last i) (set i)) ∙ ap (is_widened p samples) next,
+    )

@@ -1,0 +1,190 @@
+//! The estimate of one model: the set that follows its plant through the telemetry.
+
+ghost use Rattle.std.specs.Prelude.{◌≡◌, ◌<◌, ◌≤◌, ◌^◌, [], true, None, IsSome, length, option_map, unsigned_abs};
+ghost use Rattle.std.specs.List.{list_all};
+ghost use Rattle.set_rules.specs.Box.{hull as hull_of};
+ghost use Rattle.set_rules.specs.Limits.{input_limit};
+ghost use Rattle.farkas_check.specs.Certificate.{by_out};
+ghost use Rattle.plant_model.specs.Plant.{AllWithinLimit};
+ghost use Rattle.plant_model.specs.Seen.{sample_of};
+ghost use Rattle.observer_step.specs.Predicted.{first_set, out_of, predicted_outs, due};
+ghost use Rattle.observer_step.specs.Estimate.{leaves_range, predict as predict_of, correct as correct_of, state_box as state_box_of, StandsReady, LeadsOn};
+ghost use Rattle.observer_step.specs.Answers.{Judges};
+ghost use Rattle.observer_step.specs.Seen.{was_widened, certificate_in, is_printable_interval};
+
+use crate::inputs::{shift, through};
+use crate::readings::{missed, take_readings};
+use crate::{Kept, Outcome};
+use arrayvec::ArrayVec;
+use farkas_check::Cert;
+use fixed_mat::Mat;
+use plant_model::{Plant, Sample};
+use std::marker::Model;
+use zono_set::Zono;
+
+/// The set in which the state of a plant of `N` states lies at a sample: predicted by its image, corrected by its readings (after Combastel 2003).
+#[derive(Drop)]
+pub struct Est<const N: usize> {
+    plain: Zono<N>,
+}
+
+impl<const N: usize> Model for Est<N> {
+    ghost use Rattle.observer_step.specs.Estimate.{Estimate, HasRoom};
+
+    ghost Value = { Estimate };
+
+    ghost view = { λ e. record { plain = e.plain } };
+
+    ghost invariant = { λ e. HasRoom (record { plain = e.plain }) };
+}
+
+impl<const N: usize> Est<N> {
+    /// The set in which the plant starts.
+    pub fn begin(plant: &Plant<N>) -> Est<N>
+        ensures set { result.plain ≡ first_set plant.now }
+        ensures ready { StandsReady plant.now [] result }
+    {
+        Est {
+            plain: first_box(plant),
+        }
+    }
+
+    /// One sample on with the inputs `u` of the last sample, in nano-units. `Widened` where the image leaves the range: the set is then the state box.
+    pub fn predict(&mut self, plant: &Plant<N>, u: &ArrayVec<i128, 4>) -> Kept
+        requires count { length u.now.items ≡ plant.now.inputs }
+        requires small { AllWithinLimit input_limit u.now.items }
+        ensures set { self.new.plain ≡ predict_of plant.now u.now.items self.old.plain }
+        ensures kept { was_widened result ≡ leaves_range plant.now u.now.items self.old.plain }
+        ensures ready { LeadsOn plant.now u.now.items self.old self.new (was_widened result) }
+    {
+        move_on(&mut self.plain, plant, u)
+    }
+
+    /// The predicted interval of each output with the inputs `u`, in nano-units, its ends within `10^24`.
+    pub fn outs(&self, plant: &Plant<N>, u: &ArrayVec<i128, 4>) -> ArrayVec<(i128, i128), 6>
+        requires count { length u.now.items ≡ plant.now.inputs }
+        requires small { AllWithinLimit input_limit u.now.items }
+        ensures value { result.items ≡ predicted_outs plant.now u.now.items self.now.plain }
+        ensures printable { list_all is_printable_interval result.items ≡ true }
+    {
+        predicted(&self.plain, plant, u)
+    }
+
+    /// The least and the greatest value of state `i`, in nano-units.
+    pub fn hull(&self, i: usize) -> (i128, i128)
+        requires { i < N }
+        ensures value { result ≡ hull_of self.now.plain i }
+        ensures low { unsigned_abs result.0 ≤ 1_000_000_000_000_000_000 }
+        ensures high { unsigned_abs result.1 ≤ 1_000_000_000_000_000_000 }
+    {
+        self.plain.hull(i)
+    }
+
+    /// What the sample says of the model: the due certificate names the least output that misses. Where it fits, the set takes each reading in order, and else it stays.
+    pub fn correct(&mut self, plant: &Plant<N>, sample: &Sample) -> Outcome
+        requires inputs { length sample.now.u.items ≡ plant.now.inputs }
+        requires outputs { length sample.now.y.items ≡ plant.now.outputs }
+        ensures outcome { certificate_in result ≡ option_map by_out (due plant.now (sample_of sample.now) self.old.plain) }
+        ensures fits { certificate_in result ≡ None → self.new.plain ≡ correct_of plant.now (sample_of sample.now) self.old.plain }
+        ensures excluded { IsSome (certificate_in result) → self.new ≡ self.old }
+        ensures stands { Judges plant.now (sample_of sample.now) self.old self.new (certificate_in result) }
+    {
+        let outs = self.outs(plant, &sample.u);
+        self.correct_by(plant, sample, &outs)
+    }
+
+    /// The same, where the intervals that `outs` predicts are at hand, so that they are not computed twice.
+    pub fn correct_by(
+        &mut self,
+        plant: &Plant<N>,
+        sample: &Sample,
+        outs: &[(i128, i128)],
+    ) -> Outcome
+        requires inputs { length sample.now.u.items ≡ plant.now.inputs }
+        requires outputs { length sample.now.y.items ≡ plant.now.outputs }
+        requires predicted { outs.now ≡ predicted_outs plant.now sample.now.u.items self.old.plain }
+        ensures outcome { certificate_in result ≡ option_map by_out (due plant.now (sample_of sample.now) self.old.plain) }
+        ensures fits { certificate_in result ≡ None → self.new.plain ≡ correct_of plant.now (sample_of sample.now) self.old.plain }
+        ensures excluded { IsSome (certificate_in result) → self.new ≡ self.old }
+        ensures stands { Judges plant.now (sample_of sample.now) self.old self.new (certificate_in result) }
+    {
+        let _ = plant.outputs();
+        match missed(outs, &sample.y) {
+            Some(o) => Outcome::Excluded(Cert::Out(o as u32)),
+            None => {
+                take_readings(&mut self.plain, plant, sample);
+                Outcome::Fits
+            }
+        }
+    }
+}
+
+/// The box in which the plant starts.
+fn first_box<const N: usize>(plant: &Plant<N>) -> Zono<N>
+    ensures value { result ≡ first_set plant.now }
+    ensures room { length result.columns ≤ 64 }
+{
+    let _ = plant.states();
+    Zono::of_box(plant.centre(), plant.radius()).unwrap()
+}
+
+/// The box of the plant's state bounds.
+fn state_box<const N: usize>(plant: &Plant<N>) -> Zono<N>
+    ensures value { result ≡ state_box_of plant.now }
+    ensures room { length result.columns ≤ 64 }
+{
+    let _ = plant.states();
+    Zono::of_box(&Mat::zero(), plant.state_max()).unwrap()
+}
+
+/// Moves a set one sample on: the image of its at most 48 columns, or the state box.
+fn move_on<const N: usize>(set: &mut Zono<N>, plant: &Plant<N>, u: &[i128]) -> Kept
+    requires count { length u.now ≡ plant.now.inputs }
+    requires small { AllWithinLimit input_limit u.now }
+    ensures value { set.new ≡ predict_of plant.now u.now set.old }
+    ensures kept { was_widened result ≡ leaves_range plant.now u.now set.old }
+    ensures room { length set.new.columns ≤ 64 }
+{
+    let _ = plant.states();
+    set.reduce(48);
+    match set.image(plant.a(), &shift(plant, u), plant.e(), plant.dists()) {
+        Ok(()) => Kept::Imaged,
+        Err(_) => {
+            *set = state_box(plant);
+            Kept::Widened
+        }
+    }
+}
+
+/// The predicted interval of each output.
+fn predicted<const N: usize>(
+    set: &Zono<N>,
+    plant: &Plant<N>,
+    u: &[i128],
+) -> ArrayVec<(i128, i128), 6>
+    requires count { length u.now ≡ plant.now.inputs }
+    requires small { AllWithinLimit input_limit u.now }
+    requires room { length set.now.columns ≤ 64 }
+    ensures value { result.items ≡ predicted_outs plant.now u.now set.now }
+    ensures printable { list_all is_printable_interval result.items ≡ true }
+{
+    let mut outs = ArrayVec::new();
+    for o in 0..plant.outputs() {
+        outs.push(interval(set, plant, u, o));
+    }
+    outs
+}
+
+/// The predicted interval of output `o`.
+fn interval<const N: usize>(set: &Zono<N>, plant: &Plant<N>, u: &[i128], o: usize) -> (i128, i128)
+    requires count { length u.now ≡ plant.now.inputs }
+    requires small { AllWithinLimit input_limit u.now }
+    requires output { o < plant.now.outputs }
+    requires room { length set.now.columns ≤ 64 }
+    ensures value { result ≡ out_of plant.now u.now set.now o }
+    ensures low { unsigned_abs result.0 ≤ 10 ^ 24 }
+    ensures high { unsigned_abs result.1 ≤ 10 ^ 24 }
+{
+    let _ = plant.states();
+    set.out_interval(&plant.c_row(o), through(plant, u, o), plant.noise(o))
+}
