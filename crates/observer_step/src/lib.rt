@@ -8,3 +8,6 @@ mod readings;
 
 pub use est::Est;
 pub use outcome::{Kept, Outcome};
+
+#[cfg(test)]
+mod tests;

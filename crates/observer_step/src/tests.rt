@@ -1,0 +1,302 @@
+ghost use Rattle.std.specs.Prelude.{◌≡◌, ◌≤◌, IfSome, unsigned_abs};
+ghost use Rattle.set_rules.specs.Limits.{input_limit};
+ghost use Rattle.plant_model.specs.Plant.{IsReading};
+
+use crate::{Est, Kept, Outcome};
+use arrayvec::ArrayVec;
+use farkas_check::Cert;
+use fixed_mat::{Mat, Reading};
+use plant_model::{Plant, PlantParts, Sample};
+use std::test::Fail;
+
+const ONE: i128 = 1_000_000_000;
+
+type Ends = (i128, i128);
+
+/// A plant of one state and one output, with as many disturbances as inputs: the inputs are added, disturbances add 0.2 units, and it is read with noise within 0.1 units.
+fn plant(inputs: usize, a: i128, radius: i128) -> Result<Plant<1>, Fail> {
+    let mut parts = PlantParts {
+        inputs,
+        outputs: 1,
+        dists: inputs,
+        a: Mat::zero(),
+        b: Mat::zero(),
+        c: Mat::zero(),
+        d: Mat::zero(),
+        e: Mat::zero(),
+        noise: Mat::zero(),
+        centre: Mat::zero(),
+        radius: Mat::zero(),
+        state_max: Mat::zero(),
+    };
+    parts.a.set(0, 0, a).map_err(|_| "a")?;
+    parts.b.set(0, 0, ONE).map_err(|_| "b")?;
+    parts.c.set(0, 0, ONE).map_err(|_| "c")?;
+    parts.e.set(0, 0, 200_000_000).map_err(|_| "e")?;
+    parts.noise.set(0, 0, 100_000_000).map_err(|_| "noise")?;
+    parts.radius.set(0, 0, radius).map_err(|_| "radius")?;
+    parts
+        .state_max
+        .set(0, 0, 1_000 * ONE)
+        .map_err(|_| "state_max")?;
+    Plant::of(parts).map_err(|_| "a plant".into())
+}
+
+/// Two states, each within 1 unit, whose sum is read twice with noise within 0.1 units.
+fn twin() -> Result<Plant<2>, Fail> {
+    let mut parts = PlantParts {
+        inputs: 0,
+        outputs: 2,
+        dists: 0,
+        a: Mat::zero(),
+        b: Mat::zero(),
+        c: Mat::zero(),
+        d: Mat::zero(),
+        e: Mat::zero(),
+        noise: Mat::zero(),
+        centre: Mat::zero(),
+        radius: Mat::zero(),
+        state_max: Mat::zero(),
+    };
+    for i in 0..2 {
+        parts.c.set(i, 0, ONE).map_err(|_| "c")?;
+        parts.c.set(i, 1, ONE).map_err(|_| "c")?;
+        parts.noise.set(i, 0, 100_000_000).map_err(|_| "noise")?;
+        parts.radius.set(i, 0, ONE).map_err(|_| "radius")?;
+    }
+    Plant::of(parts).map_err(|_| "a plant".into())
+}
+
+/// A sample with at most one input and one reading.
+fn sample(u: Option<i128>, y: Reading) -> Sample
+    requires input { IfSome u (λ v. unsigned_abs v ≤ input_limit) }
+    requires reading { IsReading y }
+{
+    let mut inputs = ArrayVec::new();
+    if let Some(u) = u {
+        inputs.push(u);
+    }
+    let mut readings = ArrayVec::new();
+    readings.push(y);
+    Sample {
+        u: inputs,
+        y: readings,
+    }
+}
+
+/// A sample without inputs and with two readings.
+fn pair(first: Reading, second: Reading) -> Sample
+    requires first { IsReading first }
+    requires second { IsReading second }
+{
+    let mut readings = ArrayVec::new();
+    readings.push(first);
+    readings.push(second);
+    Sample {
+        u: ArrayVec::new(),
+        y: readings,
+    }
+}
+
+/// The predicted interval of the output, and the hull of the state once the sample is taken, where it fits.
+fn taken(est: &mut Est<1>, plant: &Plant<1>, sample: &Sample) -> Option<(Ends, Ends)> {
+    if sample.u.len() != plant.inputs() || sample.y.len() != plant.outputs() {
+        return None;
+    }
+    let outs = est.outs(plant, &sample.u);
+    match est.correct_by(plant, sample, &outs) {
+        Outcome::Fits => Some((outs[0], est.hull(0))),
+        Outcome::Excluded(_) => None,
+    }
+}
+
+/// One sample on.
+fn moved(est: &mut Est<1>, plant: &Plant<1>, sample: &Sample) -> Option<Kept> {
+    if sample.u.len() != plant.inputs() {
+        return None;
+    }
+    Some(est.predict(plant, &sample.u))
+}
+
+/// The gain is 990099009: the centre goes to 495049505, and the columns are 9900991, -99009901 and 1.
+#[test]
+fn a_reading_is_taken(rt: HostRuntime) -> Result<(), Fail> {
+    let plant = plant(0, ONE / 2, ONE)?;
+    let mut est = Est::begin(&plant);
+    let half = sample(
+        None,
+        Reading::Value {
+            v: 500_000_000,
+            slack: 0,
+        },
+    );
+    assert_eq!(rt;
+        taken(&mut est, &plant, &half),
+        Some(((-1_100_000_000, 1_100_000_000), (386_138_612, 603_960_398)))
+    );
+    Ok(())
+}
+
+/// The predicted interval ends at 1.1 units.
+#[test]
+fn a_reading_at_the_edge_is_kept(rt: HostRuntime) -> Result<(), Fail> {
+    let plant = plant(0, ONE / 2, ONE)?;
+    for (y, hull) in [
+        (
+            Reading::Value {
+                v: 1_100_000_000,
+                slack: 0,
+            },
+            (980_198_017, 1_198_019_803),
+        ),
+        (
+            Reading::Value {
+                v: 1_100_000_000,
+                slack: 1,
+            },
+            (980_198_016, 1_198_019_804),
+        ),
+        (
+            Reading::Value {
+                v: 1_100_000_001,
+                slack: 1,
+            },
+            (980_198_017, 1_198_019_805),
+        ),
+    ] {
+        let mut est = Est::begin(&plant);
+        assert_eq!(rt;
+            taken(&mut est, &plant, &sample(None, y)).map(|made| made.1),
+            Some(hull)
+        );
+    }
+    let past = sample(
+        None,
+        Reading::Value {
+            v: 1_100_000_001,
+            slack: 0,
+        },
+    );
+    let mut est = Est::begin(&plant);
+    assert!(rt; taken(&mut est, &plant, &past).is_none());
+    assert_eq!(rt; est.hull(0), (-ONE, ONE));
+    Ok(())
+}
+
+/// The gain 198412695 would raise the sum of the radii from 54455449 to 63492070.
+#[test]
+fn a_reading_that_would_spread_the_set_is_not_taken(rt: HostRuntime) -> Result<(), Fail> {
+    let plant = plant(0, ONE / 2, ONE)?;
+    let mut est = Est::begin(&plant);
+    let half = sample(
+        None,
+        Reading::Value {
+            v: 500_000_000,
+            slack: 0,
+        },
+    );
+    let fifth = sample(
+        None,
+        Reading::Value {
+            v: 200_000_000,
+            slack: 0,
+        },
+    );
+    assert!(rt; taken(&mut est, &plant, &half).is_some());
+    assert_eq!(rt; moved(&mut est, &plant, &half), Some(Kept::Imaged));
+    assert_eq!(rt;
+        taken(&mut est, &plant, &fifth),
+        Some(((93_069_304, 401_980_202), (193_069_304, 301_980_202)))
+    );
+    Ok(())
+}
+
+#[test]
+fn a_lost_reading_leaves_the_set(rt: HostRuntime) -> Result<(), Fail> {
+    let plant = plant(0, ONE / 2, ONE)?;
+    let mut est = Est::begin(&plant);
+    let lost = sample(None, Reading::Missing);
+    assert_eq!(rt;
+        taken(&mut est, &plant, &lost),
+        Some(((-1_100_000_000, 1_100_000_000), (-ONE, ONE)))
+    );
+    assert_eq!(rt; moved(&mut est, &plant, &lost), Some(Kept::Imaged));
+    assert_eq!(rt;
+        taken(&mut est, &plant, &lost),
+        Some(((-600_000_000, 600_000_000), (-500_000_000, 500_000_000)))
+    );
+    Ok(())
+}
+
+/// The image of 10^6 units reaches 10^9 units and stays; that of one unit more is the box of the state bounds.
+#[test]
+fn an_image_at_the_range_stays(rt: HostRuntime) -> Result<(), Fail> {
+    let lost = sample(None, Reading::Missing);
+    for (radius, kept, reach) in [
+        (1_000_000 * ONE, Kept::Imaged, 1_000_000_000 * ONE),
+        (1_000_001 * ONE, Kept::Widened, 1_000 * ONE),
+    ] {
+        let plant = plant(0, 1_000 * ONE, radius)?;
+        let mut est = Est::begin(&plant);
+        assert!(rt; taken(&mut est, &plant, &lost).is_some());
+        assert_eq!(rt; moved(&mut est, &plant, &lost), Some(kept));
+        let noise = ONE / 10;
+        assert_eq!(rt;
+            taken(&mut est, &plant, &lost),
+            Some(((-reach - noise, reach + noise), (-reach, reach)))
+        );
+    }
+    Ok(())
+}
+
+/// The input 2 and a disturbance within 0.2 units: from 1.3 to 2.7 units. The gain is 966666666.
+#[test]
+fn an_input_moves_the_set(rt: HostRuntime) -> Result<(), Fail> {
+    let plant = plant(1, ONE / 2, ONE)?;
+    let mut est = Est::begin(&plant);
+    let driven = sample(Some(2 * ONE), Reading::Missing);
+    let still = sample(
+        Some(0),
+        Reading::Value {
+            v: 2_000_000_000,
+            slack: 0,
+        },
+    );
+    assert!(rt; taken(&mut est, &plant, &driven).is_some());
+    assert_eq!(rt; moved(&mut est, &plant, &driven), Some(Kept::Imaged));
+    assert_eq!(rt;
+        taken(&mut est, &plant, &still),
+        Some((
+            (1_200_000_000, 2_800_000_000),
+            (1_879_999_998, 2_120_000_002)
+        ))
+    );
+    Ok(())
+}
+
+/// Both outputs are predicted within 2.1 units.
+#[test]
+fn the_least_output_that_misses_is_named(rt: HostRuntime) -> Result<(), Fail> {
+    let plant = twin()?;
+    let inside = Reading::Value {
+        v: 500_000_000,
+        slack: 0,
+    };
+    let below = Reading::Value {
+        v: -2_200_000_000,
+        slack: 0,
+    };
+    let above = Reading::Value {
+        v: 2_200_000_000,
+        slack: 0,
+    };
+    for (first, second, output) in [(inside, above, 1), (below, above, 0)] {
+        let sample = pair(first, second);
+        let mut est = Est::begin(&plant);
+        assert!(rt; sample.u.is_empty() && plant.inputs() == 0);
+        assert!(rt; sample.y.len() == 2 && plant.outputs() == 2);
+        let outcome = est.correct(&plant, &sample);
+        assert!(rt; matches!(outcome, Outcome::Excluded(Cert::Out(o)) if o == output));
+    }
+    Ok(())
+}
