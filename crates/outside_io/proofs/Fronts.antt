@@ -1,5 +1,5 @@
 -- Pieces that are put one after the other.
-use Rattle.std.proofs.Common.{◌≡◌, ℕ, ◌+◌, ◌≤◌, suc, List, [], ◌∷◌, ◌++◌, length, take, Option, Result, Ok, Err, OnErr, OnOk, refl, arith, length-append, ap, sym, subst}
+use Rattle.std.proofs.Common.{◌≡◌, ℕ, ◌+◌, suc, List, [], ◌∷◌, ◌++◌, length, take, Option, Result, Ok, Err, OnErr, OnOk, refl, arith, length-append, ap, sym, subst}
 use Rattle.std.proofs.lemmas.List.{take_at, take-append-le, append-nil}
 use Rattle.std.specs.Io.KnownBytes.{Appends}
 use Rattle.outside_io.specs.Sink.{AppendsFront}

@@ -1,0 +1,237 @@
+// A shelf and a sink in memory that fail at chosen calls.
+ghost use Rattle.std.specs.Prelude.{◌≡◌, ◌≢◌, ◌<◌, ◌≤◌, ◌↔◌, ℕ, List, [], ◌++◌, Option, None, Some, true, false, take, length, slice_set, IsTrue, IsErr, IsErrOf, IsOk, IfOk, OnOk, OnErr};
+ghost use Rattle.std.specs.Io.{ReadsAtMost, WritesAtMost};
+ghost use Rattle.std.specs.Io.KnownBytes.{ReadConsumes, WriteAppends};
+ghost use Rattle.std.proofs.Common.{rules};
+ghost use Rattle.outside_io.specs.Causes.{HasCause, next_count};
+ghost use Rattle.outside_io.specs.Places.{GivesMost};
+ghost use Rattle.outside_io.specs.Shelf.{IsFresh, KeepsOthers, Same, asked_after};
+
+use crate::files::Files;
+use crate::opened::Opened;
+use crate::slots::{Place, Slots};
+use crate::{GetFault, PutFault, Shelf, Sink, SureSink};
+use std::alloc::{AllocError, Global};
+
+/// A sink that takes whole pieces, and fails at chosen calls.
+#[derive(Drop)]
+pub struct MemSink {
+    sink: SureSink,
+    fails: Vec<u64>,
+    calls: u64,
+    faults: u64,
+}
+
+impl MemSink {
+    ghost use Rattle.outside_io.specs.Mem.{held_of, puts_of, failing_puts_of, put_is_due};
+
+    /// An empty sink, whose `put` fails where the number of the call, from 1, is one of `fails`.
+    pub fn of(alloc: Global, fails: &[u64]) -> Result<MemSink, AllocError>
+        ensures empty { IfOk result (λ s. held_of s ≡ []) }
+        ensures fails { IfOk result (λ s. failing_puts_of s ≡ fails.now) }
+        ensures calls { IfOk result (λ s. puts_of s ≡ 0) }
+        ensures no_faults { IfOk result (λ s. ⟦<MemSink as Sink>⟧.faults s ≡ 0) }
+        ensures no_wants { IfOk result (λ s. ⟦<MemSink as Sink>⟧.wants s ≡ 0) }
+    {
+        Ok(MemSink {
+            sink: SureSink::of(alloc),
+            fails: fails.to_vec(alloc)?,
+            calls: 0,
+            faults: 0,
+        })
+    }
+
+    /// The bytes taken so far.
+    pub fn held(&self) -> &[u8]
+        ensures { result.now ≡ held_of self.now }
+    {
+        self.sink.held()
+    }
+
+    // Counts a call of `put`, and tells whether it is to fail.
+    fn count(&mut self) -> bool
+        ensures due { result ≡ put_is_due self.old }
+        ensures counted { self.new ≡ record self.old { calls = next_count (puts_of self.old) } }
+    {
+        self.calls = self.calls.saturating_add(1);
+        self.fails.contains(&self.calls)
+    }
+}
+
+impl Sink for MemSink {
+    ghost use Rattle.outside_io.specs.Mem.{held_of, puts_of, failing_puts_of, put_is_due};
+
+    ghost held = { λ s. Some (held_of s) };
+
+    ghost faults = { λ s. s.faults };
+
+    ghost wants = { λ s. ⟦<SureSink as Sink>⟧.wants s.sink };
+
+    fn put(&mut self, piece: &[u8]) -> Result<usize, PutFault>
+        ensures due { IsTrue (put_is_due self.old) → IsErrOf result PutFault.Failed }
+        ensures not_due { ¬ IsTrue (put_is_due self.old) → ¬ IsErrOf result PutFault.Failed }
+        ensures whole { IfOk result (λ n. n ≡ length piece.now) }
+        ensures bytes { OnOk result (held_of self.new ≡ held_of self.old ++ piece.now) }
+        ensures keeps { OnErr result (held_of self.new ≡ held_of self.old) }
+        ensures calls { puts_of self.new ≡ next_count (puts_of self.old) }
+        ensures fails { failing_puts_of self.new ≡ failing_puts_of self.old }
+        ensures calm { OnOk result (self.new.faults ≡ self.old.faults) }
+        ensures failed { HasCause PutFault.Failed self.old.faults self.new.faults result }
+        ensures memory { HasCause PutFault.Memory self.old.sink.wanted self.new.sink.wanted result }
+    {
+        if self.count() {
+            self.faults = self.faults.saturating_add(1);
+            return Err(PutFault::Failed);
+        }
+        self.sink.put(piece)
+    }
+}
+
+/// A shelf that fails at chosen calls, and where a name is unknown.
+#[derive(Drop)]
+pub struct MemShelf {
+    alloc: Global,
+    files: Files,
+    slots: Slots,
+    fails: Vec<(usize, u64)>,
+    calls: [u64; 3],
+    faults: [u64; 3],
+}
+
+impl MemShelf {
+    ghost use Rattle.outside_io.specs.Mem.{file_of, name_of_slot, calls_of, faults_of, fails_of, is_due};
+
+    /// A shelf with no files. A call fails where its slot and its number on that slot, from 1 with `attach`, are one of `fails`.
+    pub fn of(alloc: Global, fails: &[(usize, u64)]) -> Result<MemShelf, AllocError>
+        ensures files { IfOk result (λ s. (n : List ℕ) → file_of s n ≡ None) }
+        ensures fresh { IfOk result (λ s. IsFresh (name_of_slot s)) }
+        ensures fails { IfOk result (λ s. fails_of s ≡ fails.now) }
+        ensures calls { IfOk result (λ s. (q : ℕ) → calls_of s q ≡ 0) }
+        ensures faults { IfOk result (λ s. (q : ℕ) → faults_of s q ≡ 0) }
+    {
+        Ok(MemShelf {
+            alloc,
+            files: Files::new(alloc),
+            slots: Slots::new(),
+            fails: fails.to_vec(alloc)?,
+            calls: [0; 3],
+            faults: [0; 3],
+        })
+    }
+
+    /// Makes these bytes the file of this name.
+    pub fn add(&mut self, name: &str, bytes: &[u8]) -> Result<(), AllocError>
+        requires { IsFresh (name_of_slot self.old) }
+        ensures added { OnOk result (file_of self.new name.now ≡ Some bytes.now) }
+        ensures others { OnOk result ((n : List ℕ) → n ≢ name.now → file_of self.new n ≡ file_of self.old n) }
+        ensures err { OnErr result ((n : List ℕ) → file_of self.new n ≡ file_of self.old n) }
+        ensures fresh { IsFresh (name_of_slot self.new) }
+        ensures fails { fails_of self.new ≡ fails_of self.old }
+        ensures calls { (q : ℕ) → calls_of self.new q ≡ calls_of self.old q }
+        ensures faults { (q : ℕ) → faults_of self.new q ≡ faults_of self.old q }
+    {
+        self.files.add(self.alloc, name, bytes)
+    }
+
+    // Counts a call on a slot, and tells whether it is to fail.
+    fn count(&mut self, slot: usize) -> bool
+        requires { slot < 3 }
+        ensures due { result ≡ is_due self.old slot }
+        ensures counted { self.new ≡ record self.old { calls = slice_set self.old.calls slot (next_count (calls_of self.old slot)) } }
+    {
+        let number = self.calls[slot].saturating_add(1);
+        self.calls[slot] = number;
+        self.fails.iter().any(|f| f.0 == slot && f.1 == number)
+    }
+
+    // Counts a fault of a slot.
+    fn fail(&mut self, slot: usize) -> GetFault
+        requires { slot < 3 }
+        ensures fault { result ≡ GetFault.Failed }
+        ensures later { faults_of self.old slot ≤ faults_of self.new slot }
+        ensures counted { self.new ≡ record self.old { faults = slice_set self.old.faults slot (next_count (faults_of self.old slot)) } }
+    {
+        self.faults[slot] = self.faults[slot].saturating_add(1);
+        GetFault::Failed
+    }
+}
+
+impl Shelf for MemShelf {
+    ghost use Rattle.outside_io.specs.Mem.{file_of, name_of_slot, slot_is_open, slot_left, calls_of, faults_of, fails_of, is_due, fails_to_open};
+
+    ghost attached = { slot_is_open };
+
+    ghost asked = { name_of_slot };
+
+    ghost file = { file_of };
+
+    ghost rest = { slot_left };
+
+    ghost faults = { faults_of };
+
+    ghost attached_was_asked = { λ s q. Prim.search rules };
+
+    fn attach(&mut self, slot: usize, name: &str) -> Result<(), GetFault>
+        requires slot { slot < 3 }
+        requires fresh { name_of_slot self.old slot ≡ None }
+        ensures due { IsTrue (fails_to_open self.old slot name.now) → IsErr result }
+        ensures not_due { ¬ IsTrue (fails_to_open self.old slot name.now) → ¬ IsErrOf result GetFault.Failed }
+        ensures calls { calls_of self.new slot ≡ next_count (calls_of self.old slot) }
+        ensures other_calls { Same slot (calls_of self.old) (calls_of self.new) }
+        ensures fails { fails_of self.new ≡ fails_of self.old }
+        ensures attached { OnOk result (slot_is_open self.new slot ≡ true) }
+        ensures not_attached { OnErr result (slot_is_open self.new slot ≡ slot_is_open self.old slot) }
+        ensures asked { name_of_slot self.new slot ≡ asked_after (name_of_slot self.old slot) name.now result }
+        ensures begins { OnOk result (slot_left self.new slot ≡ file_of self.old name.now) }
+        ensures keeps { OnErr result (slot_left self.new slot ≡ slot_left self.old slot) }
+        ensures files { (n : List ℕ) → file_of self.new n ≡ file_of self.old n }
+        ensures others { KeepsOthers slot (slot_is_open self.old) (slot_is_open self.new) (name_of_slot self.old) (name_of_slot self.new) (slot_left self.old) (slot_left self.new) (faults_of self.old) (faults_of self.new) }
+        ensures calm { OnOk result (faults_of self.new slot ≡ faults_of self.old slot) }
+        ensures cause { HasCause GetFault.Failed (faults_of self.old slot) (faults_of self.new slot) result }
+    {
+        let due = self.count(slot);
+        let copy = match String::from_str(self.alloc, name) {
+            Ok(copy) => copy,
+            Err(AllocError) => return Err(GetFault::Memory),
+        };
+        let bytes = match self.files.find(name) {
+            Some(bytes) if !due => bytes,
+            _ => {
+                self.slots.set(slot, Place::Refused(copy));
+                return Err(self.fail(slot));
+            }
+        };
+        match bytes.to_vec(self.alloc) {
+            Ok(bytes) => {
+                self.slots.set(slot, Place::Open(Opened::new(copy, bytes)));
+                Ok(())
+            }
+            Err(AllocError) => Err(GetFault::Memory),
+        }
+    }
+
+    fn next(&mut self, slot: usize, into: &mut [u8]) -> Result<usize, GetFault>
+        requires slot { slot < 3 }
+        requires attached { slot_is_open self.old slot ≡ true }
+        ensures due { IsTrue (is_due self.old slot) → result ≡ Err GetFault.Failed }
+        ensures not_due { ¬ IsTrue (is_due self.old slot) → IsOk result }
+        ensures most { IfOk result (λ n. GivesMost (slot_left self.old slot) (length into.new) n) }
+        ensures calls { calls_of self.new slot ≡ next_count (calls_of self.old slot) }
+        ensures other_calls { Same slot (calls_of self.old) (calls_of self.new) }
+        ensures fails { fails_of self.new ≡ fails_of self.old }
+        ensures bound { ReadsAtMost result into.new }
+        ensures bytes { ReadConsumes (slot_left self.old slot) (slot_left self.new slot) result into.new }
+        ensures keeps { OnErr result (slot_left self.new slot ≡ slot_left self.old slot) }
+        ensures attached { slot_is_open self.new slot ≡ slot_is_open self.old slot }
+        ensures asked { name_of_slot self.new slot ≡ name_of_slot self.old slot }
+        ensures files { (n : List ℕ) → file_of self.new n ≡ file_of self.old n }
+        ensures others { KeepsOthers slot (slot_is_open self.old) (slot_is_open self.new) (name_of_slot self.old) (name_of_slot self.new) (slot_left self.old) (slot_left self.new) (faults_of self.old) (faults_of self.new) }
+        ensures calm { OnOk result (faults_of self.new slot ≡ faults_of self.old slot) }
+        ensures cause { HasCause GetFault.Failed (faults_of self.old slot) (faults_of self.new slot) result }
+    {
+        if self.count(slot) {
+            return Err(self.fail(slot));
+        }
+        Ok(self.slots.read(slot, into))
+    }
+}
