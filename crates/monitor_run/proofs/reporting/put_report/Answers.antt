@@ -19,3 +19,9 @@ pub returns-in-Err-begin-clause-puts : goal.returns-in-Err-begin-clause-puts
 returns-in-Err-begin-clause-puts g c =
     of-some (g.F.Shelf.rest c.args.shelf.now 1) _ (λ r. head-front c.args.models (g.O.Sink.held c.args.out.now) (g.O.Sink.held c.put_head.new.out) (rows_owed c.args.head.now c.args.stream.now.cutter (left_of c.args.stream.now ++ r))
     (all-front (g.O.Sink.held c.args.out.now) (g.O.Sink.held c.put_head.new.out) (lines_text (head_lines (names_in c.args.models))) c.in-Ok.ensures.ok))
+
+pub returns-in-Ok-begin-clause-puts : goal.returns-in-Ok-begin-clause-puts
+returns-in-Ok-begin-clause-puts g c =
+    if-some (g.F.Shelf.rest c.args.shelf.now 1) _ _
+    (λ r h. behind-head c.args.models (g.O.Sink.held c.args.out.now) (g.O.Sink.held c.put_head.new.out) (g.O.Sink.held c.put_rows.new.out) c.in-Ok.ensures.ok c.put_rows.result (rows_owed c.args.head.now c.args.stream.now.cutter (left_of c.args.stream.now ++ r)) c.put_rows.ensures.faults h)
+    (c.put_rows.ensures.puts (plants_in c.args.models) c.in-Ok-begin.ensures.stands)
