@@ -1,5 +1,5 @@
 -- Later samples change nothing of what is said of earlier ones.
-use Rattle.std.proofs.Common.{◌≡◌, ℕ, zero, suc, ◌+◌, ◌<◌, ◌≤◌, Bool, ◌&&◌, is_none, List, [], ◌∷◌, ◌++◌, length, map, Option, option_map, if◌then◌else◌, refl, sym, ap, ◌∙◌, arith, ℤ}
+use Rattle.std.proofs.Common.{◌≡◌, ℕ, zero, suc, ◌+◌, ◌<◌, ◌≤◌, Bool, ◌&&◌, is_none, List, [], ◌∷◌, ◌++◌, length, Option, option_map, if◌then◌else◌, refl, ap, ◌∙◌, arith, ℤ}
 use Rattle.std.proofs.lemmas.List.{get_or_append_left}
 use Rattle.set_rules.specs.Zono.{Zono}
 use Rattle.farkas_check.specs.Certificate.{Certificate, by_out}
@@ -9,8 +9,7 @@ use Rattle.observer_step.specs.Predicted.{predicted_outs, hulls, due}
 use Rattle.observer_step.specs.Estimate.{leaves_range, correct, predicted_set, corrected_set, is_widened}
 use Rattle.observer_step.specs.Answers.{Answer, zonotope_observer, certificate_at, answer_at, is_live}
 use Rattle.observer_step.proofs.ExclusionHolds.{later-nothing}
-use Rattle.model_bank.specs.Answers.{SampleAnswer, answer_if, answers_from, possible_at, sample_answer}
-use Rattle.report_text.specs.Line.{Line}
+use Rattle.model_bank.specs.Answers.{answer_if, answers_from, possible_at, sample_answer}
 use Rattle.report_rules.specs.Lines.{samples_lines, sample_lines}
 
 module _ (samples more : List Sample) where

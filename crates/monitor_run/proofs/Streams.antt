@@ -1,5 +1,5 @@
 -- What a stream has at hand, as pieces are taken and read.
-use Rattle.std.proofs.Common.{◌≡◌, ◌≢◌, ℕ, ◌+◌, ◌-◌, ◌*◌, ◌<◌, ◌≤◌, Bool, true, false, List, [], ◌∷◌, ◌++◌, length, take, drop, Option, Some, None, refl, sym, ap, ◌∙◌, arith, length-append, append_assoc, append-nil, subst, nat_lt, nat_le, ◌&&◌, if◌then◌else◌, Result, Ok, Err, length-take, length-drop}
+use Rattle.std.proofs.Common.{◌≡◌, ◌≢◌, ℕ, ◌+◌, ◌-◌, ◌<◌, ◌≤◌, Bool, true, false, List, ◌++◌, length, take, drop, Option, Some, None, refl, sym, ap, ◌∙◌, arith, length-append, if◌then◌else◌, Result, Ok, Err, length-take}
 use Rattle.std.proofs.lemmas.List.{drop-take, drop-drop}
 use Rattle.monitor_run.specs.Stream.{GoesOn, BothTold, TellsRefusal}
 use Rattle.std.specs.Prelude.{slice_range}

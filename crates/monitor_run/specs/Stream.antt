@@ -1,11 +1,11 @@
 -- A stream of telemetry lines, and what it has still to tell.
 use Rattle.outside_io.specs.Shelf.{KeepsOthers}
-use Rattle.std.specs.Prelude.{◌≡◌, ℕ, ◌<◌, ◌≤◌, length, Bool, List, [], ◌∷◌, ◌++◌, Option, Some, None}
+use Rattle.std.specs.Prelude.{◌≡◌, ℕ, ◌<◌, ◌≤◌, length, Bool, List, ◌∷◌, Option, Some, None}
 use Rattle.plant_model.specs.Plant.{Sample}
 use Rattle.telem_csv.specs.Columns.{Columns}
 use Rattle.telem_csv.specs.Cutter.{Cutter, current, text_at, rows_owed, telemetry_owed}
 use Rattle.telem_csv.specs.Rows.{Rows, no_rows, refused_rows, row_of, then_rows, refused_at}
-use Rattle.telem_csv.specs.Telemetry.{Telemetry, no_header, header_of, then_header}
+use Rattle.telem_csv.specs.Telemetry.{no_header, header_of, then_header}
 use Rattle.telem_csv.specs.declared.fault.TelemFault.{TelemFault}
 use Rattle.telem_csv.specs.declared.fault.TelemWhy.TheVariants as why
 
