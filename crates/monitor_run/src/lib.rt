@@ -10,7 +10,7 @@ mod stream;
 mod whole;
 
 pub use done::{Done, RunFault};
-pub use reporting::monitor;
+pub use reporting::{MOST_TELEMETRY, monitor};
 
 #[cfg(test)]
 mod tests;

@@ -29,7 +29,7 @@ use std::alloc::Global;
 use telem_csv::Header;
 
 /// The longest telemetry, in bytes.
-const MOST_TELEMETRY: u64 = 16_777_216;
+pub const MOST_TELEMETRY: u64 = 16_777_216;
 
 /// The slot of the telemetry.
 const SLOT: usize = 1;

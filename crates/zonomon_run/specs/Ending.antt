@@ -4,13 +4,17 @@ use Rattle.std.specs.Io.KnownBytes.{Appends}
 use Rattle.outside_io.specs.Causes.{Rose}
 use Rattle.outside_io.specs.Sink.{AppendsFront}
 use Rattle.model_file.specs.declared.fault.ModelFault.{ModelFault}
+use Rattle.telem_csv.specs.declared.fault.TelemFault.{TelemFault}
 use Rattle.refusal_text.specs.Model.{model_refusal}
+use Rattle.refusal_text.specs.Telemetry.{telemetry_refusal}
+use Rattle.monitor_run.specs.Files.{most_telemetry}
 use Rattle.zonomon_run.specs.declared.ending.Ending.{Ending}
-use Rattle.zonomon_run.specs.declared.ending.Ending.TheVariants.{Usage, Model, ReadModel, ReadTelemetry, Write, Memory, NotBuilt}
+use Rattle.zonomon_run.specs.declared.ending.Ending.TheVariants.{Usage, Model, Telemetry, ReadModel, ReadTelemetry, Write, Memory, NotBuilt}
 
 abbrev pub status_of : Ending → ℕ
 status_of Usage = 1
 status_of (Model fault) = 2
+status_of (Telemetry fault) = 3
 status_of ReadModel = 4
 status_of ReadTelemetry = 4
 status_of Write = 5
@@ -29,9 +33,14 @@ usage_lines = ended (codes "usage: zonomon run MODEL TELEMETRY") ++ ended (codes
 abbrev pub model_refusal_text : ModelFault → List ℕ
 model_refusal_text fault = ended (model_refusal fault)
 
+-- why a telemetry is refused, as a line
+abbrev pub telemetry_refusal_text : TelemFault → List ℕ
+telemetry_refusal_text fault = ended (telemetry_refusal most_telemetry fault)
+
 abbrev pub text_of : Ending → List ℕ
 text_of Usage = usage_lines
 text_of (Model fault) = model_refusal_text fault
+text_of (Telemetry fault) = telemetry_refusal_text fault
 text_of ReadModel = ended (codes "read fault: model")
 text_of ReadTelemetry = ended (codes "read fault: telemetry")
 text_of Write = ended (codes "write fault")

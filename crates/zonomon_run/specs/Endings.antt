@@ -1,52 +1,13 @@
--- What an ending says of the bytes of the model file, and where each ending comes from.
-use Rattle.std.specs.Prelude.{◌≡◌, ℕ, List, Some, None, Bool, true, false}
-use Rattle.model_file.specs.declared.fault.ModelFault.{ModelFault}
-use Rattle.model_file.specs.declared.fault.ModelFault.TheVariants as fault
+-- How the program ends where a run ended early.
+use Rattle.std.specs.Prelude.{ℕ, ◌==◌, if◌then◌else◌}
+use Rattle.monitor_run.specs.declared.done.RunFault.{RunFault}
+use Rattle.monitor_run.specs.declared.done.RunFault.TheVariants as run
 use Rattle.zonomon_run.specs.declared.ending.Ending.{Ending}
-use Rattle.zonomon_run.specs.declared.ending.Ending.TheVariants.{Usage, Model, ReadModel, ReadTelemetry, Write, Memory, NotBuilt}
-use Rattle.zonomon_run.specs.Form.{refusal_in}
+use Rattle.zonomon_run.specs.declared.ending.Ending.TheVariants.{Model, Telemetry, ReadModel, ReadTelemetry, Write, Memory}
 
--- memory ran out
-abbrev pub is_memory : ModelFault → Bool
-is_memory fault.Memory = true
-is_memory _ = false
-
--- the file is refused with this fault; or it is not refused, where the program went on
-abbrev pub ModelSays : Ending → List ℕ → Type 0
-ModelSays Usage m = Unit
-ModelSays (Model fault) m = refusal_in m ≡ Some fault
-ModelSays ReadModel m = Unit
-ModelSays ReadTelemetry m = refusal_in m ≡ None
-ModelSays Write m = refusal_in m ≡ None
-ModelSays Memory m = Unit
-ModelSays NotBuilt m = refusal_in m ≡ None
-
--- an ending of judging a model file's bytes
-abbrev pub IsBytesEnding : Ending → Type 0
-IsBytesEnding Usage = ⊥
-IsBytesEnding (Model fault) = Unit
-IsBytesEnding ReadModel = ⊥
-IsBytesEnding ReadTelemetry = ⊥
-IsBytesEnding Write = ⊥
-IsBytesEnding Memory = Unit
-IsBytesEnding NotBuilt = ⊥
-
--- an ending of reading the model file
-abbrev pub IsModelEnding : Ending → Type 0
-IsModelEnding Usage = ⊥
-IsModelEnding (Model fault) = Unit
-IsModelEnding ReadModel = Unit
-IsModelEnding ReadTelemetry = ⊥
-IsModelEnding Write = ⊥
-IsModelEnding Memory = Unit
-IsModelEnding NotBuilt = ⊥
-
--- an ending of reading the telemetry
-abbrev pub IsTelemetryEnding : Ending → Type 0
-IsTelemetryEnding Usage = ⊥
-IsTelemetryEnding (Model fault) = ⊥
-IsTelemetryEnding ReadModel = ⊥
-IsTelemetryEnding ReadTelemetry = Unit
-IsTelemetryEnding Write = ⊥
-IsTelemetryEnding Memory = Unit
-IsTelemetryEnding NotBuilt = Unit
+abbrev pub ending_of : RunFault → Ending
+ending_of (run.Model fault) = Model fault
+ending_of (run.Telemetry fault) = Telemetry fault
+ending_of (run.Read slot) = if slot == 0 then ReadModel else ReadTelemetry
+ending_of run.Write = Write
+ending_of run.Memory = Memory

@@ -1,9 +1,5 @@
 pub mod Words
 pub mod Command
-pub mod Whole
-pub mod Form
-pub mod Endings
-pub mod Telemetry
-pub mod Report
 pub mod Ending
+pub mod Endings
 pub mod Runs

@@ -1,52 +1,40 @@
 -- What a run does with files that the shelf tells.
-use Rattle.std.specs.Prelude.{◌≡◌, ◌⊎◌, ℕ, ◌<◌, List, [], Option, Some, None, IfSome, MatchOption, IsSome, codes}
-use Rattle.std.specs.Io.KnownBytes.{Appends}
+use Rattle.std.specs.Prelude.{◌≡◌, ◌⊎◌, ℕ, List, [], Option, Some, None, IfSome}
 use Rattle.outside_io.specs.Causes.{Rose}
-use Rattle.outside_io.specs.Sink.{AppendsFront}
-use Rattle.report_text.specs.Line.{lines_text}
+use Rattle.model_file.specs.Bank.{Models}
+use Rattle.model_file.specs.declared.fault.ModelFault.{ModelFault}
+use Rattle.telem_csv.specs.Rows.{Rows}
+use Rattle.telem_csv.specs.declared.fault.TelemFault.{TelemFault}
+use Rattle.model_bank.specs.Bank.{plants_in}
+use Rattle.report_rules.specs.Claims.{HullsHold, ExclusionsHold, MissesTold, plant_at}
+use Rattle.monitor_run.specs.Files.{Files, bad_model, bad_header, monitored, files_of, model_refusal, telemetry_refusal, report_of_rows}
+use Rattle.monitor_run.specs.Outcome.{OnBytes, ReadFailed}
 use Rattle.zonomon_run.specs.Words.{asked_by, monitor}
 use Rattle.zonomon_run.specs.declared.ending.Ending.{Ending}
 use Rattle.zonomon_run.specs.declared.ending.Ending.TheVariants.{ReadModel, ReadTelemetry}
-use Rattle.zonomon_run.specs.Report.{Served, served, report_served, plant_served, samples_served}
-use Rattle.model_file.specs.declared.fault.ModelFault.{ModelFault}
-use Rattle.zonomon_run.specs.Form.{refusal_in}
-use Rattle.report_rules.specs.Claims.{HullsHold, ExclusionsHold, MissesTold}
-
--- a claim on the bytes of a model file and a telemetry, where both are told
-abbrev pub OnBytes : Option (List ℕ) → Option (List ℕ) → (List ℕ → List ℕ → Type 0) → Type 0
-OnBytes model telemetry claim = IfSome model (λ m. IfSome telemetry (λ t. claim m t))
-
--- a claim on the model file that the words `run` name, where the shelf tells it
-abbrev pub OnModel : List (List ℕ) → (List ℕ → Option (List ℕ)) → (List ℕ → Type 0) → Type 0
-OnModel words file claim = (model telemetry : List ℕ) → asked_by words ≡ monitor model telemetry → IfSome (file model) claim
-
--- a claim on the files that the words `run` name, where the shelf tells them
-abbrev pub OnFiles : List (List ℕ) → (List ℕ → Option (List ℕ)) → (List ℕ → List ℕ → Type 0) → Type 0
-OnFiles words file claim = (model telemetry : List ℕ) → asked_by words ≡ monitor model telemetry → OnBytes (file model) (file telemetry) claim
-
--- known bytes grow by the whole report of files that are served
-abbrev pub PutsReport : Option (List ℕ) → Option (List ℕ) → Option Served → Type 0
-PutsReport held held' None = ⊥
-PutsReport held held' (Some s) = Appends held held' (lines_text (report_served s))
-
--- known bytes grow by a front of it, and by nothing where the files are not served
-abbrev pub PutsFront : Option (List ℕ) → Option (List ℕ) → Option Served → Type 0
-PutsFront held held' None = held' ≡ held
-PutsFront held held' (Some s) = AppendsFront held held' (lines_text (report_served s))
-
--- reading a slot failed: its count of faults rose, and it was asked for this name
-pub record ReadFailed (before now : ℕ) (asked : Option (List ℕ)) (name : List ℕ) : Type 0 where
-  pub rose : Rose before now
-  pub was_asked : asked ≡ Some name
-
--- the reading of slot 0 or of slot 1 failed, and that was told
-abbrev pub ReadsFailed : (ℕ → ℕ) → (ℕ → ℕ) → (ℕ → Option (List ℕ)) → (Ending → Type 0) → List ℕ → List ℕ → Type 0
-ReadsFailed before now asked told model telemetry =
-    (ReadFailed (before 0) (now 0) (asked 0) model × told ReadModel) ⊎ (ReadFailed (before 1) (now 1) (asked 1) telemetry × told ReadTelemetry)
 
 -- what the words `run` name
 abbrev pub OnRun : List (List ℕ) → (List ℕ → List ℕ → Type 0) → Type 0
 OnRun words claim = (model telemetry : List ℕ) → asked_by words ≡ monitor model telemetry → claim model telemetry
+
+-- a claim on the model file that the words `run` name, where the shelf tells it
+abbrev pub OnModel : List (List ℕ) → (List ℕ → Option (List ℕ)) → (List ℕ → Type 0) → Type 0
+OnModel words file claim = OnRun words (λ model telemetry. IfSome (file model) claim)
+
+-- a claim on what the files say that the words `run` name, where the shelf tells them
+abbrev pub OnFiles : List (List ℕ) → (List ℕ → Option (List ℕ)) → (Files → Type 0) → Type 0
+OnFiles words file claim = OnRun words (λ model telemetry. OnBytes (file model) (file telemetry) (λ m t. claim (files_of m t)))
+
+-- no file is refused
+abbrev pub IsAccepted : Files → Type 0
+IsAccepted (bad_model fault) = ⊥
+IsAccepted (bad_header fault) = ⊥
+IsAccepted (monitored ms rows) = rows.refusal ≡ None
+
+-- the reading of slot 0 failed before anything was put, or that of slot 1, and that was told
+abbrev pub ReadsFailed : (before now : ℕ → ℕ) → (asked : ℕ → Option (List ℕ)) → (held held' : Option (List ℕ)) → (Ending → Type 0) → (model telemetry : List ℕ) → Type 0
+ReadsFailed before now asked held held' told model telemetry =
+    (ReadFailed (before 0) (now 0) (asked 0) model × told ReadModel × (held' ≡ held)) ⊎ (ReadFailed (before 1) (now 1) (asked 1) telemetry × told ReadTelemetry)
 
 -- no count of faults rose, of slots 0 and 1 and of the output
 pub record NoneRose (before now : ℕ → ℕ) (out out' : ℕ) : Type 0 where
@@ -54,28 +42,42 @@ pub record NoneRose (before now : ℕ → ℕ) (out out' : ℕ) : Type 0 where
   pub telemetry : ¬ Rose (before 1) (now 1)
   pub output : ¬ Rose out out'
 
--- the statuses
+-- the statuses of a run
+abbrev pub IsRunStatus : ℕ → Type 0
+IsRunStatus n = (n ≡ 0) ⊎ ((n ≡ 2) ⊎ ((n ≡ 3) ⊎ ((n ≡ 4) ⊎ ((n ≡ 5) ⊎ (n ≡ 6)))))
+
+-- all statuses
 abbrev pub IsStatus : ℕ → Type 0
-IsStatus n = (n ≡ 0) ⊎ ((n ≡ 1) ⊎ ((n ≡ 2) ⊎ ((n ≡ 4) ⊎ ((n ≡ 5) ⊎ ((n ≡ 6) ⊎ (n ≡ 8))))))
+IsStatus n = IsRunStatus n ⊎ ((n ≡ 1) ⊎ (n ≡ 8))
 
 -- the statuses of the word `help`
 abbrev pub IsHelpStatus : ℕ → Type 0
 IsHelpStatus n = (n ≡ 0) ⊎ ((n ≡ 5) ⊎ (n ≡ 6))
 
--- the model file that the words `run` name is refused with this fault, and that was told
-abbrev pub IsRefusedBy : (ModelFault → Type 0) → List (List ℕ) → (List ℕ → Option (List ℕ)) → Type 0
-IsRefusedBy told words file = (fault : ModelFault) × OnModel words file (λ m. refusal_in m ≡ Some fault) × told fault
+-- the model file is refused with this fault, and that was told
+abbrev pub IsModelRefused : (ModelFault → Type 0) → Option (List ℕ) → Type 0
+IsModelRefused told model = (fault : ModelFault) × IfSome model (λ m. model_refusal m ≡ Some fault) × told fault
+
+-- the telemetry is refused with this fault, and that was told
+abbrev pub IsTelemetryRefused : (TelemFault → Type 0) → (model telemetry : Option (List ℕ)) → Type 0
+IsTelemetryRefused told model telemetry = (fault : TelemFault) × OnBytes model telemetry (λ m t. telemetry_refusal (files_of m t) ≡ Some fault) × told fault
 
 -- ---- what the printed lines claim
 
-abbrev pub TrueHulls : Option Served → Type 0
-TrueHulls None = Unit
-TrueHulls (Some s) = HullsHold (λ _. plant_served s) (samples_served s) 0 (report_served s)
+-- each hull holds every trajectory of its model
+abbrev pub TrueHulls : Files → Type 0
+TrueHulls (bad_model fault) = Unit
+TrueHulls (bad_header fault) = Unit
+TrueHulls (monitored ms rows) = HullsHold (plant_at (plants_in ms)) rows.samples 0 (report_of_rows ms rows)
 
-abbrev pub TrueExclusions : Option Served → Type 0
-TrueExclusions None = Unit
-TrueExclusions (Some s) = ExclusionsHold (λ _. plant_served s) (samples_served s) 0 (report_served s)
+-- each model that is excluded has no trajectory
+abbrev pub TrueExclusions : Files → Type 0
+TrueExclusions (bad_model fault) = Unit
+TrueExclusions (bad_header fault) = Unit
+TrueExclusions (monitored ms rows) = ExclusionsHold (plant_at (plants_in ms)) rows.samples 0 (report_of_rows ms rows)
 
-abbrev pub TrueMisses : Option Served → Type 0
-TrueMisses None = Unit
-TrueMisses (Some s) = MissesTold (samples_served s) 0 None (report_served s)
+-- a reading that misses its printed interval excludes the model at the least such output
+abbrev pub TrueMisses : Files → Type 0
+TrueMisses (bad_model fault) = Unit
+TrueMisses (bad_header fault) = Unit
+TrueMisses (monitored ms rows) = MissesTold rows.samples 0 None (report_of_rows ms rows)

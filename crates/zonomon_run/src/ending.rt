@@ -3,11 +3,14 @@ ghost use Rattle.std.specs.Prelude.{◌≡◌, OnOk, OnErr};
 ghost use Rattle.std.specs.Io.KnownBytes.{Appends};
 ghost use Rattle.outside_io.specs.Causes.{HasCause};
 ghost use Rattle.outside_io.specs.Sink.{AppendsFront};
-ghost use Rattle.zonomon_run.specs.Ending.{status_of, text_of, usage_lines, model_refusal_text, Tells};
+ghost use Rattle.zonomon_run.specs.Endings.{ending_of};
+ghost use Rattle.zonomon_run.specs.Ending.{status_of, text_of, usage_lines, model_refusal_text, telemetry_refusal_text, Tells};
 
 use model_file::ModelFault;
+use monitor_run::{MOST_TELEMETRY, RunFault};
 use outside_io::{PutFault, Sink, put_all};
-use refusal_text::model_refusal;
+use refusal_text::{model_refusal, telemetry_refusal};
+use telem_csv::TelemFault;
 
 /// How the program is called.
 const USAGE: &[u8] =
@@ -20,6 +23,8 @@ pub enum Ending {
     Usage,
     /// The model file is refused.
     Model(ModelFault),
+    /// The telemetry is refused at a line.
+    Telemetry(TelemFault),
     /// The model file could not be read.
     ReadModel,
     /// The telemetry could not be read.
@@ -30,6 +35,20 @@ pub enum Ending {
     Memory,
     /// What is asked for is not built yet.
     NotBuilt,
+}
+
+/// How the program ends where a run ended early.
+pub fn ending_of(fault: RunFault) -> Ending
+    ensures { result ≡ ending_of fault }
+{
+    match fault {
+        RunFault::Model(fault) => Ending::Model(fault),
+        RunFault::Telemetry(fault) => Ending::Telemetry(fault),
+        RunFault::Read { slot: 0 } => Ending::ReadModel,
+        RunFault::Read { slot: _ } => Ending::ReadTelemetry,
+        RunFault::Write => Ending::Write,
+        RunFault::Memory => Ending::Memory,
+    }
 }
 
 /// The lines that say how the program is called.
@@ -56,7 +75,8 @@ fn put_ending<E: Sink>(err: &mut E, ending: &Ending) -> Result<(), PutFault>
     ensures memory { HasCause PutFault.Memory (E.wants err.old) (E.wants err.new) result }
 {
     match ending {
-        Ending::Model(fault) => put_refusal(err, fault),
+        Ending::Model(fault) => put_model_refusal(err, fault),
+        Ending::Telemetry(fault) => put_telemetry_refusal(err, fault),
         Ending::Usage => put_all(err, usage()),
         Ending::ReadModel => put_all(err, b"read fault: model\n"),
         Ending::ReadTelemetry => put_all(err, b"read fault: telemetry\n"),
@@ -67,7 +87,7 @@ fn put_ending<E: Sink>(err: &mut E, ending: &Ending) -> Result<(), PutFault>
 }
 
 /// Puts the line that says why a model file is refused.
-fn put_refusal<E: Sink>(err: &mut E, fault: &ModelFault) -> Result<(), PutFault>
+fn put_model_refusal<E: Sink>(err: &mut E, fault: &ModelFault) -> Result<(), PutFault>
     ensures ok { OnOk result (Appends (E.held err.old) (E.held err.new) (model_refusal_text fault.now)) }
     ensures err { OnErr result (AppendsFront (E.held err.old) (E.held err.new) (model_refusal_text fault.now)) }
     ensures failed { HasCause PutFault.Failed (E.faults err.old) (E.faults err.new) result }
@@ -78,12 +98,25 @@ fn put_refusal<E: Sink>(err: &mut E, fault: &ModelFault) -> Result<(), PutFault>
     put_all(err, &line)
 }
 
+/// Puts the line that says why a telemetry is refused.
+fn put_telemetry_refusal<E: Sink>(err: &mut E, fault: &TelemFault) -> Result<(), PutFault>
+    ensures ok { OnOk result (Appends (E.held err.old) (E.held err.new) (telemetry_refusal_text fault.now)) }
+    ensures err { OnErr result (AppendsFront (E.held err.old) (E.held err.new) (telemetry_refusal_text fault.now)) }
+    ensures failed { HasCause PutFault.Failed (E.faults err.old) (E.faults err.new) result }
+    ensures memory { HasCause PutFault.Memory (E.wants err.old) (E.wants err.new) result }
+{
+    let mut line = telemetry_refusal(fault, MOST_TELEMETRY);
+    line.push(b'\n');
+    put_all(err, &line)
+}
+
 fn status(ending: &Ending) -> u8
     ensures { result ≡ status_of ending.now }
 {
     match ending {
         Ending::Usage => 1,
         Ending::Model(_) => 2,
+        Ending::Telemetry(_) => 3,
         Ending::ReadModel => 4,
         Ending::ReadTelemetry => 4,
         Ending::Write => 5,

@@ -2,15 +2,9 @@
 #![tactic(auto)]
 
 mod ending;
+mod files;
 mod help;
-mod inputs;
-mod monitor;
-mod one_state;
-mod predict;
-mod report;
 mod running;
-mod telemetry;
-mod whole;
 mod words;
 
 pub use running::run;

@@ -1,19 +1,19 @@
 //! The top call.
-ghost use Rattle.std.specs.Prelude.{◌≡◌, ◌≢◌, ◌⊎◌, ◌↔◌, ℕ, List, None, IsSome, string_bytes};
+ghost use Rattle.std.specs.Prelude.{◌≡◌, ◌≢◌, ◌⊎◌, ◌↔◌, ℕ, None, IsSome};
 ghost use Rattle.std.specs.Io.KnownBytes.{IsAtEnd, Appends};
 ghost use Rattle.outside_io.specs.Causes.{Rose};
 ghost use Rattle.outside_io.specs.Shelf.{IsFresh};
 ghost use Rattle.outside_io.specs.Sink.{AppendsFront};
-ghost use Rattle.zonomon_run.specs.Form.{refusal_in};
+ghost use Rattle.report_text.specs.Line.{lines_text};
+ghost use Rattle.monitor_run.specs.Files.{model_refusal, telemetry_refusal, report_of};
+ghost use Rattle.monitor_run.specs.Whole.{IsAskedAtMost};
 ghost use Rattle.zonomon_run.specs.Words.{asked_by, texts, faulty, helps, later};
-ghost use Rattle.zonomon_run.specs.Ending.{status_of, text_of, usage_lines, model_refusal_text, Tells};
-ghost use Rattle.zonomon_run.specs.Report.{served};
-ghost use Rattle.zonomon_run.specs.Runs.{IsHelpStatus, IsRefusedBy, OnModel, OnFiles, OnRun, PutsReport, PutsFront, ReadsFailed, NoneRose, IsStatus, TrueHulls, TrueExclusions, TrueMisses};
-ghost use Rattle.zonomon_run.specs.Whole.{IsAskedAtMost};
+ghost use Rattle.zonomon_run.specs.Ending.{status_of, text_of, usage_lines, model_refusal_text, telemetry_refusal_text, Tells};
+ghost use Rattle.zonomon_run.specs.Runs.{IsAccepted, IsHelpStatus, IsModelRefused, IsTelemetryRefused, IsStatus, OnModel, OnFiles, OnRun, ReadsFailed, NoneRose, TrueHulls, TrueExclusions, TrueMisses};
 
 use crate::ending::{Ending, tell};
+use crate::files::run_files;
 use crate::help::help;
-use crate::monitor::monitor;
 use crate::words::{Command, command_of};
 use outside_io::{Shelf, Sink};
 use std::alloc::Global;
@@ -33,14 +33,14 @@ pub fn run<F: Shelf, O: Sink, E: Sink>(
     ensures status { IsStatus result }
     ensures usage { (result ≡ 1) ↔ (asked_by (texts words.now) ≡ faulty) }
     ensures help { asked_by (texts words.now) ≡ helps → IsHelpStatus result }
-    ensures refused { result ≡ 2 → IsRefusedBy (λ fault. Tells (E.held err.old) (E.held err.new) (E.faults err.old) (E.faults err.new) (E.wants err.old) (E.wants err.new) (model_refusal_text fault)) (texts words.now) (F.file shelf.old) }
-    ensures accepted { OnModel (texts words.now) (F.file shelf.old) (λ m. IsSome (refusal_in m) → ¬ Rose (F.faults shelf.old 0) (F.faults shelf.new 0) → (result ≡ 2) ⊎ (result ≡ 6)) }
-    ensures later { asked_by (texts words.now) ≡ later → result ≡ 8 }
-    ensures not_refused { result ≡ 8 → OnModel (texts words.now) (F.file shelf.old) (λ m. refusal_in m ≡ None) }
-    ensures not_built { result ≡ 8 → OnFiles (texts words.now) (F.file shelf.old) (λ m t. served m t ≡ None) }
-    ensures read { result ≡ 4 → OnRun (texts words.now) (λ model telemetry. ReadsFailed (F.faults shelf.old) (F.faults shelf.new) (F.asked shelf.new) (λ ending. Tells (E.held err.old) (E.held err.new) (E.faults err.old) (E.faults err.new) (E.wants err.old) (E.wants err.new) (text_of ending)) model telemetry) }
+    ensures later { (result ≡ 8) ↔ (asked_by (texts words.now) ≡ later) }
+    ensures model_refused { result ≡ 2 → OnRun (texts words.now) (λ model telemetry. IsModelRefused (λ fault. Tells (E.held err.old) (E.held err.new) (E.faults err.old) (E.faults err.new) (E.wants err.old) (E.wants err.new) (model_refusal_text fault)) (F.file shelf.old model)) }
+    ensures model_refuses { OnModel (texts words.now) (F.file shelf.old) (λ m. IsSome (model_refusal m) → ¬ Rose (F.faults shelf.old 0) (F.faults shelf.new 0) → (result ≡ 2) ⊎ (result ≡ 6)) }
+    ensures telemetry_refused { result ≡ 3 → OnRun (texts words.now) (λ model telemetry. IsTelemetryRefused (λ fault. Tells (E.held err.old) (E.held err.new) (E.faults err.old) (E.faults err.new) (E.wants err.old) (E.wants err.new) (telemetry_refusal_text fault)) (F.file shelf.old model) (F.file shelf.old telemetry)) }
+    ensures telemetry_refuses { OnFiles (texts words.now) (F.file shelf.old) (λ f. IsSome (telemetry_refusal f) → NoneRose (F.faults shelf.old) (F.faults shelf.new) (O.faults out.old) (O.faults out.new) → (result ≡ 3) ⊎ (result ≡ 6)) }
+    ensures read { result ≡ 4 → OnRun (texts words.now) (ReadsFailed (F.faults shelf.old) (F.faults shelf.new) (F.asked shelf.new) (O.held out.old) (O.held out.new) (λ ending. Tells (E.held err.old) (E.held err.new) (E.faults err.old) (E.faults err.new) (E.wants err.old) (E.wants err.new) (text_of ending))) }
     ensures write { result ≡ 5 → Rose (O.faults out.old) (O.faults out.new) }
-    ensures complete { OnFiles (texts words.now) (F.file shelf.old) (λ m t. IsSome (served m t) → NoneRose (F.faults shelf.old) (F.faults shelf.new) (O.faults out.old) (O.faults out.new) → (result ≡ 0) ⊎ (result ≡ 6)) }
+    ensures complete { OnFiles (texts words.now) (F.file shelf.old) (λ f. IsAccepted f → NoneRose (F.faults shelf.old) (F.faults shelf.new) (O.faults out.old) (O.faults out.new) → (result ≡ 0) ⊎ (result ≡ 6)) }
 
     // What was read: at status 0 all of both files, and never another.
     ensures model_end { OnRun (texts words.now) (λ _ _. result ≡ 0 → IsAtEnd (F.rest shelf.new 0)) }
@@ -48,17 +48,18 @@ pub fn run<F: Shelf, O: Sink, E: Sink>(
     ensures asked { OnRun (texts words.now) (λ model telemetry. IsAskedAtMost (F.asked shelf.new 0) model × IsAskedAtMost (F.asked shelf.new 1) telemetry) }
     ensures asked_no_third { F.asked shelf.new 2 ≡ None }
 
-    // What was put to `out`: the whole report or the help at status 0, a front of it at 5 and 6, and else nothing.
+    // What was put to `out`: the whole report or the help at status 0; at 3 the report up to the refused row; at 4, 5 and 6 a front of it; and else nothing.
     ensures helped { asked_by (texts words.now) ≡ helps → result ≡ 0 → Appends (O.held out.old) (O.held out.new) usage_lines }
     ensures help_front { asked_by (texts words.now) ≡ helps → AppendsFront (O.held out.old) (O.held out.new) usage_lines }
-    ensures report { result ≡ 0 → OnFiles (texts words.now) (F.file shelf.old) (λ m t. PutsReport (O.held out.old) (O.held out.new) (served m t)) }
-    ensures front { OnFiles (texts words.now) (F.file shelf.old) (λ m t. PutsFront (O.held out.old) (O.held out.new) (served m t)) }
-    ensures nothing { result ≢ 0 → result ≢ 5 → result ≢ 6 → O.held out.new ≡ O.held out.old }
+    ensures accepted { result ≡ 0 → OnFiles (texts words.now) (F.file shelf.old) IsAccepted }
+    ensures report { (result ≡ 0) ⊎ (result ≡ 3) → OnFiles (texts words.now) (F.file shelf.old) (λ f. Appends (O.held out.old) (O.held out.new) (lines_text (report_of f))) }
+    ensures front { OnFiles (texts words.now) (F.file shelf.old) (λ f. AppendsFront (O.held out.old) (O.held out.new) (lines_text (report_of f))) }
+    ensures nothing { (result ≡ 1) ⊎ ((result ≡ 2) ⊎ (result ≡ 8)) → O.held out.new ≡ O.held out.old }
 
-    // What the report's lines claim of the trajectories of the model.
-    ensures hull { OnFiles (texts words.now) (F.file shelf.old) (λ m t. TrueHulls (served m t)) }
-    ensures exclusion { OnFiles (texts words.now) (F.file shelf.old) (λ m t. TrueExclusions (served m t)) }
-    ensures miss { OnFiles (texts words.now) (F.file shelf.old) (λ m t. TrueMisses (served m t)) }
+    // What the report's lines claim of the trajectories of the models.
+    ensures hull { OnFiles (texts words.now) (F.file shelf.old) TrueHulls }
+    ensures exclusion { OnFiles (texts words.now) (F.file shelf.old) TrueExclusions }
+    ensures miss { OnFiles (texts words.now) (F.file shelf.old) TrueMisses }
 
     // What was put to `err`: nothing at status 0, and else the line of how the program ended.
     ensures silent { result ≡ 0 → E.held err.new ≡ E.held err.old }
@@ -68,11 +69,6 @@ pub fn run<F: Shelf, O: Sink, E: Sink>(
         Command::Faulty => tell(err, Ending::Usage),
         Command::Help => help(out, err),
         Command::Later => tell(err, Ending::NotBuilt),
-        Command::Monitor(model, telemetry) => {
-            match monitor(alloc, shelf, model, telemetry, out) {
-                Ok(()) => 0,
-                Err(ending) => tell(err, ending),
-            }
-        }
+        Command::Monitor(model, telemetry) => run_files(alloc, shelf, model, telemetry, out, err),
     }
 }
