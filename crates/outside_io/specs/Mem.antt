@@ -6,7 +6,7 @@ use Rattle.outside_io.specs.declared.mem.MemShelf.{MemShelf}
 use Rattle.outside_io.specs.Causes.{next_count}
 use Rattle.outside_io.specs.Files.{bytes_of}
 use Rattle.outside_io.specs.Places.{place_of, name_at, is_open, left_at}
-use Rattle.outside_io.specs.Sure.{sink_bytes}
+use Rattle.outside_io.specs.Sure.{sink_bytes, wants_of}
 
 abbrev pub held_of : MemSink → List ℕ
 held_of s = sink_bytes s.sink
@@ -18,6 +18,14 @@ puts_of s = s.calls
 -- the numbers of the calls of `put` that fail
 abbrev pub failing_puts_of : MemSink → List ℕ
 failing_puts_of s = s.fails.items
+
+-- how often the sink has failed
+abbrev pub put_faults_of : MemSink → ℕ
+put_faults_of s = s.faults
+
+-- how often the sink has wanted memory
+abbrev pub put_wants_of : MemSink → ℕ
+put_wants_of s = wants_of s.sink
 
 -- the next `put` is one that fails
 abbrev pub put_is_due : MemSink → Bool

@@ -1,7 +1,7 @@
 // A shelf and a sink in memory that fail at chosen calls.
-ghost use Rattle.std.specs.Prelude.{◌≡◌, ◌≢◌, ◌<◌, ◌≤◌, ◌↔◌, ℕ, List, [], ◌++◌, Option, None, Some, true, false, take, length, slice_set, IsTrue, IsErr, IsErrOf, IsOk, IfOk, OnOk, OnErr};
-ghost use Rattle.std.specs.Io.{ReadsAtMost, WritesAtMost};
-ghost use Rattle.std.specs.Io.KnownBytes.{ReadConsumes, WriteAppends};
+ghost use Rattle.std.specs.Prelude.{◌≡◌, ◌≢◌, ◌<◌, ◌≤◌, ℕ, List, [], ◌++◌, None, Some, true, length, slice_set, IsTrue, IsErr, IsErrOf, IsOk, IfOk, OnOk, OnErr};
+ghost use Rattle.std.specs.Io.{ReadsAtMost};
+ghost use Rattle.std.specs.Io.KnownBytes.{ReadConsumes};
 ghost use Rattle.std.proofs.Common.{rules};
 ghost use Rattle.outside_io.specs.Causes.{HasCause, next_count};
 ghost use Rattle.outside_io.specs.Places.{GivesMost};
@@ -23,15 +23,15 @@ pub struct MemSink {
 }
 
 impl MemSink {
-    ghost use Rattle.outside_io.specs.Mem.{held_of, puts_of, failing_puts_of, put_is_due};
+    ghost use Rattle.outside_io.specs.Mem.{held_of, puts_of, failing_puts_of, put_faults_of, put_wants_of, put_is_due};
 
     /// An empty sink, whose `put` fails where the number of the call, from 1, is one of `fails`.
     pub fn of(alloc: Global, fails: &[u64]) -> Result<MemSink, AllocError>
         ensures empty { IfOk result (λ s. held_of s ≡ []) }
         ensures fails { IfOk result (λ s. failing_puts_of s ≡ fails.now) }
         ensures calls { IfOk result (λ s. puts_of s ≡ 0) }
-        ensures no_faults { IfOk result (λ s. ⟦<MemSink as Sink>⟧.faults s ≡ 0) }
-        ensures no_wants { IfOk result (λ s. ⟦<MemSink as Sink>⟧.wants s ≡ 0) }
+        ensures no_faults { IfOk result (λ s. put_faults_of s ≡ 0) }
+        ensures no_wants { IfOk result (λ s. put_wants_of s ≡ 0) }
     {
         Ok(MemSink {
             sink: SureSink::of(alloc),
@@ -59,13 +59,13 @@ impl MemSink {
 }
 
 impl Sink for MemSink {
-    ghost use Rattle.outside_io.specs.Mem.{held_of, puts_of, failing_puts_of, put_is_due};
+    ghost use Rattle.outside_io.specs.Mem.{held_of, puts_of, failing_puts_of, put_faults_of, put_wants_of, put_is_due};
 
     ghost held = { λ s. Some (held_of s) };
 
-    ghost faults = { λ s. s.faults };
+    ghost faults = { put_faults_of };
 
-    ghost wants = { λ s. ⟦<SureSink as Sink>⟧.wants s.sink };
+    ghost wants = { put_wants_of };
 
     fn put(&mut self, piece: &[u8]) -> Result<usize, PutFault>
         ensures due { IsTrue (put_is_due self.old) → IsErrOf result PutFault.Failed }
@@ -75,9 +75,9 @@ impl Sink for MemSink {
         ensures keeps { OnErr result (held_of self.new ≡ held_of self.old) }
         ensures calls { puts_of self.new ≡ next_count (puts_of self.old) }
         ensures fails { failing_puts_of self.new ≡ failing_puts_of self.old }
-        ensures calm { OnOk result (self.new.faults ≡ self.old.faults) }
-        ensures failed { HasCause PutFault.Failed self.old.faults self.new.faults result }
-        ensures memory { HasCause PutFault.Memory self.old.sink.wanted self.new.sink.wanted result }
+        ensures calm { OnOk result (put_faults_of self.new ≡ put_faults_of self.old) }
+        ensures failed { HasCause PutFault.Failed (put_faults_of self.old) (put_faults_of self.new) result }
+        ensures memory { HasCause PutFault.Memory (put_wants_of self.old) (put_wants_of self.new) result }
     {
         if self.count() {
             self.faults = self.faults.saturating_add(1);
