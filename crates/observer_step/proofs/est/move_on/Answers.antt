@@ -1,9 +1,8 @@
-use Rattle.std.proofs.Common.{◌≡◌, ◌≤◌, length, true, false, arith, ap, sym, ◌∙◌}
+use Rattle.std.proofs.Common.{◌≡◌, ◌≤◌, length, true, false, arith, ap, sym}
 use Rattle.set_rules.specs.Zono.{Zono}
 use Rattle.set_rules.proofs.ReductionHolds.{reduction-fits}
-use Rattle.set_rules.proofs.ImageSets.{length-image}
 use Rattle.observer_step.specs.Estimate.{leaves_range}
-use Rattle.observer_step.proofs.Imaged.{image-stays, image-leaves, imaged, widened}
+use Rattle.observer_step.proofs.Imaged.{image-stays, image-leaves, imaged, image-room, widened}
 use Rattle.observer_step.proofs.est.move_on.Given.{Over}
 use Rattle.observer_step.proofs.est.move_on.Goals as goal
 use Rattle.observer_step.proofs.est.move_on.Goals.{After-dists, In-Ok, In-Err}
@@ -41,10 +40,7 @@ pub returns-in-Ok-clause-room : goal.returns-in-Ok-clause-room
 returns-in-Ok-clause-room g c =
     let states = c.states.ensures.states in
     let most = c.states.ensures.limits.few_states in
-    let few = few g (goal.at.returns-in-Ok-clause-room g c).After-dists in
-    let dists = c.dists.ensures.few in
-    let long = ap (λ (z : Zono). length z.columns) c.in-Ok.ensures.value ∙ length-image g.row.N c.dists.result c.a.result.now c.shift.result c.e.result.now c.reduce.new.self in
-    omega arith
+    image-room g.row.N c.dists.result c.a.result.now c.shift.result c.e.result.now c.reduce.new.self c.image.new.self (omega arith) c.dists.ensures.few (few g (goal.at.returns-in-Ok-clause-room g c).After-dists) c.in-Ok.ensures.value
 
 leaves : (g : Over) (c : In-Err g) → leaves_range c.args.plant.now c.args.u.now c.args.set.now ≡ true
 leaves g c =

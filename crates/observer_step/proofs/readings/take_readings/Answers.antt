@@ -1,7 +1,7 @@
-use Rattle.std.proofs.Common.{refl, sym, ap, ◌∙◌, add-one}
-use Rattle.plant_model.specs.Plant.{reading_at}
+use Rattle.std.proofs.Common.{refl}
 use Rattle.plant_model.specs.Seen.{sample_of}
-use Rattle.observer_step.specs.Estimate.{corrected_after, correct_reading}
+use Rattle.observer_step.specs.Estimate.{corrected_after}
+use Rattle.observer_step.proofs.Taken.{readings-taken}
 use Rattle.observer_step.proofs.readings.take_readings.Goals as goal
 
 pub loop-o-init : goal.loop-o-init
@@ -9,11 +9,7 @@ unfolding corrected_after
 loop-o-init g c = record { taken = refl; room = c.requires.room }
 
 pub loop-o-preserved : goal.loop-o-preserved
-unfolding corrected_after
-loop-o-preserved g c =
-    let p = c.args.plant.now in
-    let s = sample_of c.args.sample.now in
-    record {
-      taken = c.take_reading.ensures.value ∙ ap (correct_reading p s.inputs c.loop-o.o (reading_at s c.loop-o.o)) c.loop-o.invariant.taken ∙ sym (ap (λ m. corrected_after p s m c.args.set.now) (add-one c.loop-o.o));
-      room = c.take_reading.ensures.room;
-    }
+loop-o-preserved g c = record {
+  taken = readings-taken c.args.plant.now (sample_of c.args.sample.now) c.loop-o.o c.args.set.now c.loop-o.set c.take_reading.new.set c.loop-o.invariant.taken c.take_reading.ensures.value;
+  room = c.take_reading.ensures.room;
+}
