@@ -17,7 +17,7 @@ module _ (is_first : Bool) (u : List ℤ) (s : Sample) where
   pub plant-stays : (m : Member) → (member_after is_first u s m).plant ≡ m.plant
   plant-stays m = by m.live
     where
-      by : (b : Bool) → (if b then judged_on m.plant s (set_ahead is_first u m) else m).plant ≡ m.plant
+      by : (b : Bool) → (if b then judged_on m.plant s (set_ahead is_first u m.plant m.estimate.plain) else m).plant ≡ m.plant
       by true = refl
       by false = refl
 

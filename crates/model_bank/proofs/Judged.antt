@@ -6,7 +6,7 @@ use Rattle.farkas_check.specs.Certificate.{Certificate}
 use Rattle.set_rules.specs.Zono.{Zono}
 use Rattle.plant_model.specs.Plant.{Plant, Sample}
 use Rattle.observer_step.specs.Predicted.{predicted_outs, hulls}
-use Rattle.observer_step.specs.Estimate.{predict, leaves_range, correct}
+use Rattle.observer_step.specs.Estimate.{correct}
 use Rattle.observer_step.specs.Seen.{is_printable_interval}
 use Rattle.model_bank.specs.Answers.{ModelAnswer}
 use Rattle.model_bank.specs.Bank.{Member}
@@ -65,26 +65,15 @@ module _ (p : Plant) (s : Sample) (z after : Zono) (certificate : Option Certifi
 abbrev pub member_with : Plant → Zono → Bool → Member
 member_with p z b = record { plant = p; estimate = record { plain = z }; live = b }
 
--- the predicted set of a member, and whether it is widened: at the first sample and later
-pub first-ahead : (is_first : Bool) (u : List ℤ) (m : Member) → is_first ≡ true → (m.estimate.plain ≡ set_ahead is_first u m) × (false ≡ widens is_first u m)
-unfolding set_ahead widens
-first-ahead is_first u m e =
-    (sym (ap (λ b. if b then m.estimate.plain else predict m.plant u m.estimate.plain) e), sym (ap (λ b. if b then false else leaves_range m.plant u m.estimate.plain) e))
-
-pub later-ahead : (is_first : Bool) (u : List ℤ) (m : Member) → is_first ≡ false → (predict m.plant u m.estimate.plain ≡ set_ahead is_first u m) × (leaves_range m.plant u m.estimate.plain ≡ widens is_first u m)
-unfolding set_ahead widens
-later-ahead is_first u m e =
-    (sym (ap (λ b. if b then m.estimate.plain else predict m.plant u m.estimate.plain) e), sym (ap (λ b. if b then false else leaves_range m.plant u m.estimate.plain) e))
-
 -- a live member of which p is the plant and z the predicted set
-module _ (is_first : Bool) (u : List ℤ) (s : Sample) (m : Member) (live : m.live ≡ true) (p : Plant) (same : p ≡ m.plant) (z : Zono) (ahead : z ≡ set_ahead is_first u m) where
-  pub answer-taken : (index : ℕ) (w : Bool) (model : ModelAnswer) → w ≡ widens is_first u m → model ≡ record { index = index; answer = answer_on p s z w }
+module _ (is_first : Bool) (u : List ℤ) (s : Sample) (m : Member) (live : m.live ≡ true) (p : Plant) (same : p ≡ m.plant) (z : Zono) (ahead : z ≡ set_ahead is_first u m.plant m.estimate.plain) where
+  pub answer-taken : (index : ℕ) (w : Bool) (model : ModelAnswer) → w ≡ widens is_first u m.plant m.estimate.plain → model ≡ record { index = index; answer = answer_on p s z w }
       → Some model ≡ (if m.live then Some (record { index = index; answer = answer_of is_first u s m }) else None)
   answer-taken index w model e is =
       ap Some (is
       ∙ ap (λ p. record { index = index; answer = answer_on p s z w }) same
       ∙ ap (λ z. record { index = index; answer = answer_on m.plant s z w }) ahead
-      ∙ ap (λ w. record { index = index; answer = answer_on m.plant s (set_ahead is_first u m) w }) e)
+      ∙ ap (λ w. record { index = index; answer = answer_on m.plant s (set_ahead is_first u m.plant m.estimate.plain) w }) e)
       ∙ sym (ap (λ b. if b then Some (record { index = index; answer = answer_of is_first u s m }) else None) live)
 
   pub member-taken : (after : Zono) (b : Bool) → after ≡ set_on p s z → b ≡ is_none (certificate_on p s z) → member_with p after b ≡ member_after is_first u s m
@@ -93,7 +82,7 @@ module _ (is_first : Bool) (u : List ℤ) (s : Sample) (m : Member) (live : m.li
       ∙ ap (λ b. member_with p (set_on p s z) b) f
       ∙ ap (λ p. judged_on p s z) same
       ∙ ap (λ z. judged_on m.plant s z) ahead
-      ∙ sym (ap (λ b. if b then judged_on m.plant s (set_ahead is_first u m) else m) live)
+      ∙ sym (ap (λ b. if b then judged_on m.plant s (set_ahead is_first u m.plant m.estimate.plain) else m) live)
 
   -- whether the model fits stands in its answer
   pub certificate-in : (index : ℕ) (w : Bool) (model : ModelAnswer) → model ≡ record { index = index; answer = answer_on p s z w } → is_none model.answer.certificate ≡ is_none (certificate_on p s z)

@@ -62,7 +62,7 @@ module _ (samples : List Sample) (s : Sample) (u : List ℤ) (m : Member) where
       ap (λ t. correct m.plant t (predicted_set m.plant more k)) (sample-before samples s k l)
       ∙ ap (λ z. correct m.plant (sample_at samples k) z) (set-before m.plant samples s k (omega arith))
 
-  set-ahead-is : (n : ℕ) → n ≡ length samples → u ≡ (sample_at samples (n - 1)).inputs → m.estimate.plain ≡ set_after m.plant samples n → set_ahead (eqb n 0) u m ≡ predicted_set m.plant more n
+  set-ahead-is : (n : ℕ) → n ≡ length samples → u ≡ (sample_at samples (n - 1)).inputs → m.estimate.plain ≡ set_after m.plant samples n → set_ahead (eqb n 0) u m.plant m.estimate.plain ≡ predicted_set m.plant more n
   unfolding set_ahead
   set-ahead-is zero e inputs set = set ∙ sym (predicted-zero m.plant more)
   set-ahead-is (suc k) e inputs set =
@@ -71,7 +71,7 @@ module _ (samples : List Sample) (s : Sample) (u : List ℤ) (m : Member) where
       let there : m.estimate.plain ≡ corrected_set m.plant more k = set ∙ sym (corrected-before k (omega arith)) in
       ap (λ b. if b then m.estimate.plain else predict m.plant u m.estimate.plain) (suc-not_zero k) ∙ ap (λ u. predict m.plant u m.estimate.plain) here ∙ ap (λ z. predict m.plant (sample_at more k).inputs z) there ∙ sym (predicted-suc m.plant more k)
 
-  widens-is : (n : ℕ) → n ≡ length samples → u ≡ (sample_at samples (n - 1)).inputs → m.estimate.plain ≡ set_after m.plant samples n → widens (eqb n 0) u m ≡ is_widened m.plant more n
+  widens-is : (n : ℕ) → n ≡ length samples → u ≡ (sample_at samples (n - 1)).inputs → m.estimate.plain ≡ set_after m.plant samples n → widens (eqb n 0) u m.plant m.estimate.plain ≡ is_widened m.plant more n
   unfolding widens
   widens-is zero e inputs set = refl
   widens-is (suc k) e inputs set =
@@ -87,11 +87,11 @@ module _ (samples : List Sample) (s : Sample) (is_first : Bool) (u : List ℤ) (
   abbrev pub whole : List Sample
   whole = samples ++ s ∷ []
 
-  set-here : m.live ≡ true → set_ahead is_first u m ≡ predicted_set m.plant whole n
-  set-here l = ap (λ b. set_ahead b u m) knows.first_is ∙ set-ahead-is samples s u m n refl knows.inputs_are (stands.set l)
+  set-here : m.live ≡ true → set_ahead is_first u m.plant m.estimate.plain ≡ predicted_set m.plant whole n
+  set-here l = ap (λ b. set_ahead b u m.plant m.estimate.plain) knows.first_is ∙ set-ahead-is samples s u m n refl knows.inputs_are (stands.set l)
 
-  widens-here : m.live ≡ true → widens is_first u m ≡ is_widened m.plant whole n
-  widens-here l = ap (λ b. widens b u m) knows.first_is ∙ widens-is samples s u m n refl knows.inputs_are (stands.set l)
+  widens-here : m.live ≡ true → widens is_first u m.plant m.estimate.plain ≡ is_widened m.plant whole n
+  widens-here l = ap (λ b. widens b u m.plant m.estimate.plain) knows.first_is ∙ widens-is samples s u m n refl knows.inputs_are (stands.set l)
 
   pub live-here : m.live ≡ is_live zonotope_observer m.plant whole n
   live-here = stands.live ∙ sym (live-before m.plant samples s n (omega arith))
@@ -100,7 +100,7 @@ module _ (samples : List Sample) (s : Sample) (is_first : Bool) (u : List ℤ) (
   pub answer-here : m.live ≡ true → answer_of is_first u s m ≡ answer_at zonotope_observer m.plant whole n
   unfolding answer_on
   answer-here l =
-      ap (λ z. answer_on m.plant s z (widens is_first u m)) (set-here l)
+      ap (λ z. answer_on m.plant s z (widens is_first u m.plant m.estimate.plain)) (set-here l)
       ∙ ap (λ w. answer_on m.plant s (predicted_set m.plant whole n) w) (widens-here l)
       ∙ sym (ap (λ t. answer_on m.plant t (predicted_set m.plant whole n) (is_widened m.plant whole n)) (sample-last samples s))
 
@@ -118,15 +118,15 @@ module _ (samples : List Sample) (s : Sample) (is_first : Bool) (u : List ℤ) (
   unfolding set_on
   member-stands = by m.live refl
     where
-      by : (b : Bool) → m.live ≡ b → MemberStands whole (if b then judged_on m.plant s (set_ahead is_first u m) else m)
+      by : (b : Bool) → m.live ≡ b → MemberStands whole (if b then judged_on m.plant s (set_ahead is_first u m.plant m.estimate.plain) else m)
       by true l =
           let z = predicted_set m.plant whole n in
-          let certificate : certificate_on m.plant s (set_ahead is_first u m) ≡ certificate_at zonotope_observer m.plant whole n =
+          let certificate : certificate_on m.plant s (set_ahead is_first u m.plant m.estimate.plain) ≡ certificate_at zonotope_observer m.plant whole n =
           ap (λ z. certificate_on m.plant s z) (set-here l) ∙ sym certificate-here in
           record {
             live = ap is_none certificate
                 ∙ sym (ap (λ j. is_live zonotope_observer m.plant whole j) longer ∙ live-suc m.plant whole n ∙ ap (λ b. b && is_none (certificate_at zonotope_observer m.plant whole n)) (sym live-here ∙ l));
-            set = λ fits. ap (λ b. if b then correct m.plant s (set_ahead is_first u m) else set_ahead is_first u m) fits
+            set = λ fits. ap (λ b. if b then correct m.plant s (set_ahead is_first u m.plant m.estimate.plain) else set_ahead is_first u m.plant m.estimate.plain) fits
                 ∙ ap (λ z. correct m.plant s z) (set-here l) ∙ sym corrected-here ∙ sym (ap (λ j. set_after m.plant whole j) longer);
           }
       by false l = record {

@@ -9,13 +9,13 @@ use Rattle.observer_step.specs.Answers.{Answer}
 use Rattle.model_bank.specs.Answers.{ModelAnswer, answer_if}
 use Rattle.model_bank.specs.Bank.{Member}
 
--- the predicted set: what the member holds at the first sample, and later that one sample on
-unfoldable pub set_ahead : Bool → List ℤ → Member → Zono
-set_ahead is_first u m = if is_first then m.estimate.plain else predict m.plant u m.estimate.plain
+-- the predicted set: the given one at the first sample, and later that one sample on
+unfoldable pub set_ahead : Bool → List ℤ → Plant → Zono → Zono
+set_ahead is_first u p z = if is_first then z else predict p u z
 
 -- the prediction leaves the range; never at the first sample
-unfoldable pub widens : Bool → List ℤ → Member → Bool
-widens is_first u m = if is_first then false else leaves_range m.plant u m.estimate.plain
+unfoldable pub widens : Bool → List ℤ → Plant → Zono → Bool
+widens is_first u p z = if is_first then false else leaves_range p u z
 
 -- the certificate that is due where z is the predicted set
 abbrev pub certificate_on : Plant → Sample → Zono → Option Certificate
@@ -32,7 +32,7 @@ answer_on p s z is_widened = record {
 
 -- the answer on a live member
 abbrev pub answer_of : Bool → List ℤ → Sample → Member → Answer
-answer_of is_first u s m = answer_on m.plant s (set_ahead is_first u m) (widens is_first u m)
+answer_of is_first u s m = answer_on m.plant s (set_ahead is_first u m.plant m.estimate.plain) (widens is_first u m.plant m.estimate.plain)
 
 -- the set after the sample where z is the predicted set: it takes the readings where no certificate is due
 unfoldable pub set_on : Plant → Sample → Zono → Zono
@@ -44,7 +44,7 @@ judged_on p s z = record { plant = p; estimate = record { plain = set_on p s z }
 
 -- the member after the sample: one that is not live stays as it is
 abbrev pub member_after : Bool → List ℤ → Sample → Member → Member
-member_after is_first u s m = if m.live then judged_on m.plant s (set_ahead is_first u m) else m
+member_after is_first u s m = if m.live then judged_on m.plant s (set_ahead is_first u m.plant m.estimate.plain) else m
 
 -- the answers on the members that are live, where the first is model i
 abbrev pub answers_of : Bool → List ℤ → Sample → ℕ → List Member → List ModelAnswer

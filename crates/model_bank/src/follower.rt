@@ -9,7 +9,7 @@ ghost use Rattle.observer_step.specs.Predicted.{hulls as hulls_of};
 ghost use Rattle.observer_step.specs.Seen.{was_widened, certificate_in, is_printable_interval};
 ghost use Rattle.model_bank.specs.Bank.{begun};
 ghost use Rattle.model_bank.specs.Seen.{model_seen};
-ghost use Rattle.model_bank.specs.Steps.{answer_on, answer_of, set_on, member_after};
+ghost use Rattle.model_bank.specs.Steps.{set_ahead, widens, answer_on, answer_of, set_on, member_after};
 
 use crate::ModelRec;
 use arrayvec::ArrayVec;
@@ -71,14 +71,30 @@ impl<const N: usize> Follower<N> {
         if !self.live {
             return None;
         }
-        let kept = if is_first {
-            Kept::Imaged
-        } else {
-            self.estimate.predict(&self.plant, last)
-        };
+        let kept = go_ahead(&self.plant, &mut self.estimate, is_first, last);
         let model = judge(&self.plant, &mut self.estimate, index, kept, sample);
         self.live = fits(&model.outcome);
         Some(model)
+    }
+}
+
+/// Predicts the set of a sample from that of the last, whose inputs `last` are. The first has none, and its set is there.
+#[tactic(auto, unfolding(crate::specs::Steps::set_ahead, crate::specs::Steps::widens))]
+fn go_ahead<const N: usize>(
+    plant: &Plant<N>,
+    estimate: &mut Est<N>,
+    is_first: bool,
+    last: &ArrayVec<i128, 4>,
+) -> Kept
+    requires last_inputs { is_first ≡ false → length last.now.items ≡ plant.now.inputs }
+    requires last_small { AllWithinLimit input_limit last.now.items }
+    ensures set { estimate.new.plain ≡ set_ahead is_first last.now.items plant.now estimate.old.plain }
+    ensures kept { was_widened result ≡ widens is_first last.now.items plant.now estimate.old.plain }
+{
+    if is_first {
+        Kept::Imaged
+    } else {
+        estimate.predict(plant, last)
     }
 }
 

@@ -8,3 +8,6 @@ mod record;
 
 pub use bank::Bank;
 pub use record::{ModelRec, SampleRec};
+
+#[cfg(test)]
+mod tests;
