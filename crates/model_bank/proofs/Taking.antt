@@ -1,7 +1,8 @@
 -- A loop over the members of a bank, one member on.
-use Rattle.std.proofs.Common.{◌≡◌, ℕ, ◌+◌, ◌<◌, ℤ, List, [], ◌∷◌, ◌++◌, length, map, take, drop, get_or, set, Option, None, Some, if◌then◌else◌, Bool, true, false, sym, ap, ◌∙◌, arith, append_assoc}
+use Rattle.std.proofs.Common.{Vec, ◌≡◌, ℕ, ◌+◌, ◌<◌, ℤ, List, [], ◌∷◌, ◌++◌, length, map, take, drop, get_or, set, Option, None, Some, if◌then◌else◌, Bool, true, false, sym, ap, ◌∙◌, arith, append_assoc}
 use Rattle.std.specs.Option.{option_to_list}
-use Rattle.std.proofs.lemmas.List.{drop_more, get_or_at, set_at, map_more, length-map, length-take-le}
+use Rattle.std.specs.Vec.{with_items}
+use Rattle.std.proofs.lemmas.List.{drop_more, get_or_at, set_at, map_more, length-map, with_items_is, length-take-le}
 use Rattle.plant_model.specs.Plant.{Sample}
 use Rattle.observer_step.specs.Answers.{Answer}
 use Rattle.model_bank.specs.Answers.{ModelAnswer, answer_if}
@@ -44,3 +45,10 @@ module _ (is_first : Bool) (u : List ℤ) (s : Sample) (old : List Member) (i : 
       ap (λ zs. zs ++ answers_of is_first u s (i + 1) (drop (i + 1) old)) longer
       ∙ append_assoc xs (option_to_list r) (answers_of is_first u s (i + 1) (drop (i + 1) old))
       ∙ ap (λ zs. xs ++ zs) (one-more m.live (answer_of is_first u s m) (answers_of is_first u s (i + 1) (drop (i + 1) old)) r is ∙ sym with_first)
+
+-- the items of a Vec once a list of theirs, mapped, is written back
+pub items-mapped : {A Z : Type 0} (f : A → A) (v : Vec A Z) (old new : List A) → length v.items ≡ v.len → old ≡ v.items → new ≡ map f old → (with_items v new).items ≡ map f v.items
+items-mapped f v old new size same mapped =
+    let is : new ≡ map f v.items = mapped ∙ ap (map f) same in
+    let long : length new ≡ v.len = ap length is ∙ length-map v.items f ∙ size in
+    with_items_is v new long ∙ is

@@ -1,11 +1,11 @@
-use Rattle.std.proofs.Common.{◌≡◌, length, [], ◌∷◌, ◌++◌, map, eqb, ap, sym, ◌∙◌, subst, arith}
+use Rattle.std.proofs.Common.{[], ◌∷◌, ◌++◌, map, eqb, ap, sym, ◌∙◌, subst}
 use Rattle.std.specs.Vec.{with_items}
-use Rattle.std.proofs.lemmas.List.{with_items_is, length-map}
 use Rattle.plant_model.specs.Seen.{sample_of}
 use Rattle.model_bank.specs.Bank.{IsBank, BankStands}
 use Rattle.model_bank.specs.Seen.{model_seen}
 use Rattle.model_bank.specs.Steps.{member_after, answers_of}
 use Rattle.model_bank.proofs.BankStep.{bank-answers, bank-stands, bank-limits, bank-is, answer-is}
+use Rattle.model_bank.proofs.Taking.{items-mapped}
 use Rattle.model_bank.proofs.bank.Bank.step.Goals as goal
 
 pub invariant_of-self : goal.invariant_of-self
@@ -15,9 +15,7 @@ invariant_of-self c =
     let old = c.self.inside in
     let after = member_after (eqb old.count 0) old.last.items s in
     let new = c.take_all-models.new.members in
-    let taken = c.take_all-models.ensures.members ∙ ap (map after) c.deref_mut.ensures.value in
-    let long : length new ≡ old.members.len = omega (arith, ap length taken, length-map old.members.items after, old.members.ok.0) in
-    let kept = with_items_is old.members new long ∙ taken in
+    let kept = items-mapped after old.members c.deref_mut.result.now new (sym old.members.ok.0) c.deref_mut.ensures.value c.take_all-models.ensures.members in
     let is = bank-is s b old.inputs old.outputs old.count old.members.items (with_items old.members new).items old.last.items c.replace.new.last.items c.self.view_is kept (c.replace.ensures ∙ c.deref-3.ensures.0) in
     subst IsBank (sym is) (bank-limits s b (subst IsBank c.self.view_is c.self.invariant) c.args.sample.now.limits c.requires.inputs)
 
@@ -28,9 +26,7 @@ returns-clause-record c = λ plants samples stands.
     let old = c.self.inside in
     let after = member_after (eqb old.count 0) old.last.items s in
     let new = c.take_all-models.new.members in
-    let taken = c.take_all-models.ensures.members ∙ ap (map after) c.deref_mut.ensures.value in
-    let long : length new ≡ old.members.len = omega (arith, ap length taken, length-map old.members.items after, old.members.ok.0) in
-    let kept = with_items_is old.members new long ∙ taken in
+    let kept = items-mapped after old.members c.deref_mut.result.now new (sym old.members.ok.0) c.deref_mut.ensures.value c.take_all-models.ensures.members in
     answer-is s b old.inputs old.outputs old.count old.members.items (with_items old.members new).items old.last.items
     (map model_seen c.take_all-models.result.items) c.possible_models-possible.result.items c.deref-2.result.now c.judge-verdict.result
     c.self.view_is kept (c.take_all-models.ensures.answers ∙ ap (answers_of (eqb old.count 0) old.last.items s 0) c.deref_mut.ensures.value)
@@ -44,8 +40,6 @@ returns-clause-stands c = λ plants samples stands.
     let old = c.self.inside in
     let after = member_after (eqb old.count 0) old.last.items s in
     let new = c.take_all-models.new.members in
-    let taken = c.take_all-models.ensures.members ∙ ap (map after) c.deref_mut.ensures.value in
-    let long : length new ≡ old.members.len = omega (arith, ap length taken, length-map old.members.items after, old.members.ok.0) in
-    let kept = with_items_is old.members new long ∙ taken in
+    let kept = items-mapped after old.members c.deref_mut.result.now new (sym old.members.ok.0) c.deref_mut.ensures.value c.take_all-models.ensures.members in
     let is = bank-is s b old.inputs old.outputs old.count old.members.items (with_items old.members new).items old.last.items c.replace.new.last.items c.self.view_is kept (c.replace.ensures ∙ c.deref-3.ensures.0) in
     subst (BankStands plants (samples ++ s ∷ [])) (sym is) (bank-stands plants samples s b stands)
