@@ -8,8 +8,13 @@ use std::alloc::Global;
 use std::test::Fail;
 
 /// Runs the program over the pair of models, where these calls of the shelf fail and these of the output.
-fn run_with(alloc: Global, gets: &[(usize, u64)], puts: &[u64]) -> Result<Ran, Fail> {
-    let words = words_of(alloc, &["run", "m", "t"])?;
+fn run_with(
+    alloc: Global,
+    telemetry: &str,
+    gets: &[(usize, u64)],
+    puts: &[u64],
+) -> Result<Ran, Fail> {
+    let words = words_of(alloc, &["run", "m", telemetry])?;
     let mut shelf = MemShelf::of(alloc, gets)?;
     shelf.add("m", PAIR.as_bytes())?;
     shelf.add("t", b"y\n0.5\n0.2\n")?;
@@ -32,7 +37,7 @@ fn failed_put_ends_the_run(rt: HostRuntime) -> Result<(), Fail> {
         ([21], TOLD_APART.strip_suffix("end 2\n").unwrap_or("")),
     ];
     for (puts, report) in cases {
-        let ran = run_with(alloc, &[], &puts)?;
+        let ran = run_with(alloc, "t", &[], &puts)?;
         assert_eq!(rt; ran.said(), (5, report, "write fault\n"));
     }
     Ok(())
@@ -41,7 +46,7 @@ fn failed_put_ends_the_run(rt: HostRuntime) -> Result<(), Fail> {
 #[test]
 fn failed_read_of_the_model_puts_nothing(rt: HostRuntime) -> Result<(), Fail> {
     for call in [1, 2, 3] {
-        let ran = run_with(rt.alloc(), &[(0, call)], &[])?;
+        let ran = run_with(rt.alloc(), "t", &[(0, call)], &[])?;
         assert_eq!(rt; ran.said(), (4, "", "read fault: model\n"));
     }
     Ok(())
@@ -55,7 +60,7 @@ fn failed_read_of_the_telemetry_ends_the_run(rt: HostRuntime) -> Result<(), Fail
         (3, TOLD_APART.strip_suffix("end 2\n").unwrap_or("")),
     ];
     for (call, report) in cases {
-        let ran = run_with(rt.alloc(), &[(1, call)], &[])?;
+        let ran = run_with(rt.alloc(), "t", &[(1, call)], &[])?;
         assert_eq!(rt; ran.said(), (4, report, "read fault: telemetry\n"));
     }
     Ok(())
@@ -63,21 +68,14 @@ fn failed_read_of_the_telemetry_ends_the_run(rt: HostRuntime) -> Result<(), Fail
 
 #[test]
 fn fault_that_never_comes_changes_nothing(rt: HostRuntime) -> Result<(), Fail> {
-    let ran = run_with(rt.alloc(), &[(0, 4), (1, 4), (2, 1)], &[22])?;
+    let ran = run_with(rt.alloc(), "t", &[(0, 4), (1, 4), (2, 1)], &[22])?;
     assert_eq!(rt; ran.said(), (0, TOLD_APART, ""));
     Ok(())
 }
 
 #[test]
 fn unknown_name_is_a_read_fault(rt: HostRuntime) -> Result<(), Fail> {
-    let alloc = rt.alloc();
-    let words = words_of(alloc, &["run", "m", "t"])?;
-    let mut shelf = MemShelf::of(alloc, &[])?;
-    shelf.add("m", PAIR.as_bytes())?;
-    let mut out = MemSink::of(alloc, &[])?;
-    let mut err = SureSink::of(alloc);
-    assert_eq!(rt; run(alloc, &words, &mut shelf, &mut out, &mut err), 4);
-    assert_eq!(rt; out.held(), b"".as_slice());
-    assert_eq!(rt; err.held(), b"read fault: telemetry\n".as_slice());
+    let ran = run_with(rt.alloc(), "x", &[], &[])?;
+    assert_eq!(rt; ran.said(), (4, "", "read fault: telemetry\n"));
     Ok(())
 }

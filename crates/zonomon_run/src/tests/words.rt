@@ -1,15 +1,32 @@
 //! The words of a call.
-use super::words_of;
+use super::{Ran, words_of};
 use crate::run;
 use outside_io::{MemSink, SureShelf, SureSink};
+use std::alloc::Global;
 use std::test::Fail;
 
-const USAGE: &[u8] =
-    b"usage: zonomon run MODEL TELEMETRY\n       zonomon check MODEL TELEMETRY REPORT\n       zonomon demo SEED SAMPLES\n       zonomon help\n";
+const USAGE: &str = "usage: zonomon run MODEL TELEMETRY
+       zonomon check MODEL TELEMETRY REPORT
+       zonomon demo SEED SAMPLES
+       zonomon help
+";
+
+/// Runs the program with these words, where every file is empty.
+fn run_by(alloc: Global, texts: &[&str]) -> Result<Ran, Fail> {
+    let words = words_of(alloc, texts)?;
+    let mut shelf = SureShelf::of(alloc);
+    let mut out = SureSink::of(alloc);
+    let mut err = SureSink::of(alloc);
+    let status = run(alloc, &words, &mut shelf, &mut out, &mut err);
+    Ok(Ran {
+        status,
+        report: String::from_utf8_lossy(alloc, out.held())?,
+        told: String::from_utf8_lossy(alloc, err.held())?,
+    })
+}
 
 #[test]
 fn words_of_no_form_are_refused(rt: HostRuntime) -> Result<(), Fail> {
-    let alloc = rt.alloc();
     let cases: [&[&str]; 10] = [
         &[],
         &["run"],
@@ -23,43 +40,23 @@ fn words_of_no_form_are_refused(rt: HostRuntime) -> Result<(), Fail> {
         &["demo", "7", "10001"],
     ];
     for texts in cases {
-        let words = words_of(alloc, texts)?;
-        let mut shelf = SureShelf::of(alloc);
-        let mut out = SureSink::of(alloc);
-        let mut err = SureSink::of(alloc);
-        assert_eq!(rt; run(alloc, &words, &mut shelf, &mut out, &mut err), 1);
-        assert_eq!(rt; out.held(), b"".as_slice());
-        assert_eq!(rt; err.held(), USAGE);
+        assert_eq!(rt; run_by(rt.alloc(), texts)?.said(), (1, "", USAGE));
     }
     Ok(())
 }
 
 #[test]
 fn forms_to_come_are_not_built(rt: HostRuntime) -> Result<(), Fail> {
-    let alloc = rt.alloc();
     let cases: [&[&str]; 2] = [&["check", "a", "b", "c"], &["demo", "7", "1"]];
     for texts in cases {
-        let words = words_of(alloc, texts)?;
-        let mut shelf = SureShelf::of(alloc);
-        let mut out = SureSink::of(alloc);
-        let mut err = SureSink::of(alloc);
-        assert_eq!(rt; run(alloc, &words, &mut shelf, &mut out, &mut err), 8);
-        assert_eq!(rt; out.held(), b"".as_slice());
-        assert_eq!(rt; err.held(), b"not built\n".as_slice());
+        assert_eq!(rt; run_by(rt.alloc(), texts)?.said(), (8, "", "not built\n"));
     }
     Ok(())
 }
 
 #[test]
 fn help_tells_how_it_is_called(rt: HostRuntime) -> Result<(), Fail> {
-    let alloc = rt.alloc();
-    let words = words_of(alloc, &["help"])?;
-    let mut shelf = SureShelf::of(alloc);
-    let mut out = SureSink::of(alloc);
-    let mut err = SureSink::of(alloc);
-    assert_eq!(rt; run(alloc, &words, &mut shelf, &mut out, &mut err), 0);
-    assert_eq!(rt; out.held(), USAGE);
-    assert_eq!(rt; err.held(), b"".as_slice());
+    assert_eq!(rt; run_by(rt.alloc(), &["help"])?.said(), (0, USAGE, ""));
     Ok(())
 }
 
