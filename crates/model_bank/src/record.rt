@@ -25,7 +25,13 @@ pub struct ModelRec {
 }
 
 impl Default for ModelRec {
-    fn default() -> Self {
+    fn default() -> Self
+        ensures index { result.index ≡ 0 }
+        ensures preds { result.preds.items ≡ [] }
+        ensures kept { result.kept ≡ Kept.Imaged }
+        ensures outcome { result.outcome ≡ Outcome.Fits }
+        ensures hulls { result.hulls.items ≡ [] }
+    {
         ModelRec {
             index: 0,
             preds: ArrayVec::new(),
