@@ -1,5 +1,5 @@
 -- The first bytes of a model file tell what the whole file does.
-use Rattle.std.proofs.Common.{◌≡◌, ℕ, ◌+◌, ◌≤◌, ◌<◌, suc, Bool, true, false, List, length, take, drop, Option, Some, None, Result, Ok, Err, IfOk, IfErr, OnOk, IfSome, nat_le, nat_lt, refl, sym, ◌∙◌, ap, arith, ◌⊎◌, inl, inr, subst, if◌then◌else◌}
+use Rattle.std.proofs.Common.{◌≡◌, ℕ, ◌≤◌, ◌<◌, Bool, true, false, List, length, take, Option, Some, None, Result, Ok, Err, IfOk, IfErr, OnOk, IfSome, nat_lt, refl, sym, ◌∙◌, ap, arith, ◌⊎◌, inl, inr, if◌then◌else◌}
 use Rattle.std.proofs.lemmas.List.{take_all, length-take}
 use Rattle.std.proofs.lemmas.Bool.Decides.{nat_tests}
 use Rattle.model_file.specs.Bank.{Models}

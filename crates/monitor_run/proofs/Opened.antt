@@ -1,11 +1,10 @@
 -- What the rows behind a header, and the bytes of both files, say of a run.
-use Rattle.std.proofs.Common.{◌≡◌, ℕ, List, [], ◌∷◌, ◌++◌, length, Option, Some, None, IfSome, Result, Ok, Err, IfOk, IfErr, OnOk, OnErr, refl, sym, ap, ◌∙◌, subst, append_assoc}
+use Rattle.std.proofs.Common.{◌≡◌, ℕ, List, [], ◌++◌, Option, Some, None, IfSome, Result, Ok, Err, IfErr, refl, sym, ap, ◌∙◌, subst, append_assoc}
 use Rattle.std.specs.Io.KnownBytes.{Appends}
 use Rattle.outside_io.specs.Sink.{AppendsFront}
 use Rattle.outside_io.proofs.Grows.{appends_more, appends_none}
-use Rattle.outside_io.proofs.Fronts.{front-after, front-before, whole-front, no-front}
-use Rattle.telem_csv.specs.Columns.{Columns}
-use Rattle.telem_csv.specs.Cutter.{Cutter, at_start, rows_owed, telemetry_owed}
+use Rattle.outside_io.proofs.Fronts.{front-after, front-before, no-front}
+use Rattle.telem_csv.specs.Cutter.{at_start, telemetry_owed}
 use Rattle.telem_csv.specs.Rows.{Rows}
 use Rattle.telem_csv.specs.Telemetry.{Telemetry as Told, no_header, has_header, telemetry}
 use Rattle.telem_csv.specs.declared.fault.TelemFault.{TelemFault}

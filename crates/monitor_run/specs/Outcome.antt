@@ -55,6 +55,15 @@ PutsNothing (Err (Read slot)) held held' = slot ≡ 0 → held' ≡ held
 PutsNothing (Err Write) held held' = Unit
 PutsNothing (Err Memory) held held' = Unit
 
+-- where the model file is refused or can't be read, the telemetry was asked for no name
+abbrev pub AsksModelFirst : Result Done RunFault → Option (List ℕ) → Type 0
+AsksModelFirst (Ok done) asked = Unit
+AsksModelFirst (Err (Model fault)) asked = asked ≡ None
+AsksModelFirst (Err (Telemetry fault)) asked = Unit
+AsksModelFirst (Err (Read slot)) asked = slot ≡ 0 → asked ≡ None
+AsksModelFirst (Err Write) asked = Unit
+AsksModelFirst (Err Memory) asked = Unit
+
 -- reading a slot failed: its count of faults rose, and it was asked for this name
 pub record ReadFailed (before now : ℕ) (asked : Option (List ℕ)) (name : List ℕ) : Type 0 where
   pub rose : Rose before now

@@ -1,8 +1,7 @@
 -- The rows of a telemetry, and what a run over them says and puts.
-use Rattle.std.specs.Prelude.{◌≡◌, ℕ, List, ◌++◌, length, Option, Some, None, is_none, Result, Ok, Err}
+use Rattle.std.specs.Prelude.{◌≡◌, List, ◌++◌, length, Some, None, is_none, Result, Ok, Err}
 use Rattle.plant_model.specs.Plant.{Plant, Sample}
 use Rattle.telem_csv.specs.Rows.{Rows}
-use Rattle.telem_csv.specs.declared.fault.TelemFault.{TelemFault}
 use Rattle.observer_step.specs.Answers.{zonotope_observer}
 use Rattle.outside_io.specs.declared.shelf.GetFault.{GetFault}
 use Rattle.outside_io.specs.declared.shelf.GetFault.TheVariants as get

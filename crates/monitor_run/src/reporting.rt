@@ -13,7 +13,7 @@ ghost use Rattle.model_bank.specs.Bank.{BankStands};
 ghost use Rattle.monitor_run.specs.Left.{left_of};
 ghost use Rattle.monitor_run.specs.Stream.{ReadsOn};
 ghost use Rattle.monitor_run.specs.Files.{files_of, files_with, report_of, report_of_rows};
-ghost use Rattle.monitor_run.specs.Outcome.{OnBytes, SaysOfModel, SaysOfFiles, Puts, PutsNothing, ReadFailed, ReadsFailed};
+ghost use Rattle.monitor_run.specs.Outcome.{OnBytes, SaysOfModel, SaysOfFiles, Puts, PutsNothing, AsksModelFirst, ReadFailed, ReadsFailed};
 ghost use Rattle.monitor_run.specs.Rows.{rows_lines, SaysOfRows, ReadsRows, IsPutEnding, attach_ending, ending_of, put_ending};
 ghost use Rattle.monitor_run.specs.Whole.{IsAskedAtMost};
 
@@ -51,6 +51,7 @@ pub fn monitor<F: Shelf, O: Sink>(
     ensures write { result ≡ Err RunFault.Write → Rose (O.faults out.old) (O.faults out.new) }
     ensures model_end { OnOk result (IsAtEnd (F.rest shelf.new 0)) }
     ensures telemetry_end { OnOk result (IsAtEnd (F.rest shelf.new 1)) }
+    ensures asked_first { AsksModelFirst result (F.asked shelf.new 1) }
     ensures asked_model { IsAskedAtMost (F.asked shelf.new 0) model.now }
     ensures asked_telemetry { IsAskedAtMost (F.asked shelf.new 1) telemetry.now }
     ensures asked_report { F.asked shelf.new 2 ≡ None }

@@ -1,5 +1,5 @@
 -- What four words ask for.
-use Rattle.std.proofs.Common.{◌≡◌, ℕ, List, [], ◌∷◌, length, ap, arith}
+use Rattle.std.proofs.Common.{◌≡◌, List, [], ◌∷◌, length, ap, arith}
 use Rattle.std.specs.Prelude.{String, string_bytes, slice_index_or}
 use Rattle.std.specs.declared.alloc.Global.{Global}
 use Rattle.zonomon_run.specs.Words.{asked_by, texts, three_words}

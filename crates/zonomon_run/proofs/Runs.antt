@@ -1,6 +1,5 @@
 -- What a run answers, from how it ended.
-use Rattle.std.proofs.Common.{◌≡◌, ◌⊎◌, inl, inr, ◌==◌, Bool, true, false, List, ℕ, Option, Some, None, IfSome, IsSome, Result, Ok, Err, if◌then◌else◌, refl, sym, ap, ◌∙◌, subst, length, is_none}
-use Rattle.std.specs.Io.KnownBytes.{Appends}
+use Rattle.std.proofs.Common.{◌≡◌, ◌⊎◌, inl, inr, List, ℕ, Option, Some, None, IfSome, IsSome, Result, Ok, Err, refl, sym, ap, subst, length, is_none}
 use Rattle.outside_io.specs.Causes.{Rose}
 use Rattle.outside_io.specs.Sink.{AppendsFront}
 use Rattle.outside_io.proofs.Fronts.{no-front, all-front}
@@ -9,7 +8,6 @@ use Rattle.model_file.specs.ModelFile.{models_of}
 use Rattle.model_file.specs.declared.fault.ModelFault.{ModelFault}
 use Rattle.model_bank.specs.Bank.{plants_in, names_in}
 use Rattle.observer_step.specs.Answers.{zonotope_observer}
-use Rattle.telem_csv.specs.Rows.{Rows}
 use Rattle.telem_csv.specs.declared.fault.TelemFault.{TelemFault}
 use Rattle.report_text.specs.Line.{Line, lines_text}
 use Rattle.report_rules.proofs.Hulls.{hulls-hold_whole, exclusions-hold_whole, zonotope-sound}
@@ -18,13 +16,11 @@ use Rattle.monitor_run.specs.declared.done.Done.{Done}
 use Rattle.monitor_run.specs.declared.done.RunFault.{RunFault}
 use Rattle.monitor_run.specs.declared.done.RunFault.TheVariants as run
 use Rattle.monitor_run.specs.Files.{Files, bad_model, bad_header, monitored, files_of, with_models, refused, model_refusal, telemetry_refusal, report_of}
-use Rattle.monitor_run.specs.Outcome.{OnBytes, RunsThrough, SaysOfModel, SaysOfFiles, Puts, ReadFailed, ReadsFailed as SlotFailed}
+use Rattle.monitor_run.specs.Outcome.{OnBytes, SaysOfModel, SaysOfFiles, Puts, ReadsFailed as SlotFailed}
 use Rattle.zonomon_run.specs.Words.{asked_by, monitor}
-use Rattle.zonomon_run.specs.Ending.{status_of, text_of}
+use Rattle.zonomon_run.specs.Ending.{status_of}
 use Rattle.zonomon_run.specs.Endings.{ending_of}
-use Rattle.zonomon_run.specs.declared.ending.Ending.{Ending}
-use Rattle.zonomon_run.specs.declared.ending.Ending.TheVariants.{ReadModel, ReadTelemetry}
-use Rattle.zonomon_run.specs.Runs.{OnRun, OnFiles, IsAccepted, IsModelRefused, IsTelemetryRefused, IsRunStatus, NoneRose, ReadsFailed, TrueHulls, TrueExclusions, TrueMisses}
+use Rattle.zonomon_run.specs.Runs.{OnRun, OnFiles, IsAccepted, NoneRose, TrueHulls, TrueExclusions, TrueMisses}
 
 pub on-bytes : (model telemetry : Option (List ℕ)) (P : List ℕ → List ℕ → Type 0) → ((m t : List ℕ) → P m t) → OnBytes model telemetry P
 on-bytes None telemetry P f = tt

@@ -1,5 +1,5 @@
 -- What a sink got of a text, from what putting it answered.
-use Rattle.std.proofs.Common.{◌≡◌, ℕ, List, Option, Result, Ok, Err, OnOk, OnErr, refl}
+use Rattle.std.proofs.Common.{ℕ, List, Option, Result, Ok, Err, OnOk, OnErr, refl}
 use Rattle.std.specs.Io.KnownBytes.{Appends}
 use Rattle.outside_io.specs.Causes.{HasCause}
 use Rattle.outside_io.specs.Sink.{AppendsFront}

@@ -1,5 +1,5 @@
 -- How the program ends where a run ended early.
-use Rattle.std.specs.Prelude.{ℕ, ◌==◌, if◌then◌else◌}
+use Rattle.std.specs.Prelude.{◌==◌, if◌then◌else◌}
 use Rattle.monitor_run.specs.declared.done.RunFault.{RunFault}
 use Rattle.monitor_run.specs.declared.done.RunFault.TheVariants as run
 use Rattle.zonomon_run.specs.declared.ending.Ending.{Ending}

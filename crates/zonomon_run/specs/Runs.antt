@@ -1,9 +1,7 @@
 -- What a run does with files that the shelf tells.
-use Rattle.std.specs.Prelude.{◌≡◌, ◌⊎◌, ℕ, List, [], Option, Some, None, IfSome}
+use Rattle.std.specs.Prelude.{◌≡◌, ◌⊎◌, ℕ, List, Option, Some, None, IfSome}
 use Rattle.outside_io.specs.Causes.{Rose}
-use Rattle.model_file.specs.Bank.{Models}
 use Rattle.model_file.specs.declared.fault.ModelFault.{ModelFault}
-use Rattle.telem_csv.specs.Rows.{Rows}
 use Rattle.telem_csv.specs.declared.fault.TelemFault.{TelemFault}
 use Rattle.model_bank.specs.Bank.{plants_in}
 use Rattle.report_rules.specs.Claims.{HullsHold, ExclusionsHold, MissesTold, plant_at}

@@ -37,6 +37,7 @@ pub fn run_files<F: Shelf, O: Sink, E: Sink>(
     ensures write { result ≡ 5 → Rose (O.faults out.old) (O.faults out.new) }
     ensures model_end { result ≡ 0 → IsAtEnd (F.rest shelf.new 0) }
     ensures telemetry_end { result ≡ 0 → IsAtEnd (F.rest shelf.new 1) }
+    ensures asked_first { result ≡ 2 → F.asked shelf.new 1 ≡ None }
     ensures asked_model { IsAskedAtMost (F.asked shelf.new 0) model.now }
     ensures asked_telemetry { IsAskedAtMost (F.asked shelf.new 1) telemetry.now }
     ensures asked_no_third { F.asked shelf.new 2 ≡ None }

@@ -46,6 +46,7 @@ pub fn run<F: Shelf, O: Sink, E: Sink>(
     ensures model_end { OnRun (texts words.now) (λ _ _. result ≡ 0 → IsAtEnd (F.rest shelf.new 0)) }
     ensures telemetry_end { OnRun (texts words.now) (λ _ _. result ≡ 0 → IsAtEnd (F.rest shelf.new 1)) }
     ensures asked { OnRun (texts words.now) (λ model telemetry. IsAskedAtMost (F.asked shelf.new 0) model × IsAskedAtMost (F.asked shelf.new 1) telemetry) }
+    ensures asked_first { result ≡ 2 → F.asked shelf.new 1 ≡ None }
     ensures asked_no_third { F.asked shelf.new 2 ≡ None }
     ensures asked_nothing { NamesNoFile (texts words.now) → IsFresh (F.asked shelf.new) }
 

@@ -1,7 +1,6 @@
-use Rattle.std.proofs.Common.{rules}
 use Rattle.monitor_run.specs.Files.{report_of}
 use Rattle.monitor_run.specs.Outcome.{SaysOfFiles, Puts}
-use Rattle.monitor_run.proofs.Opened.{with-models, accepted-says, rows-nothing, judged-says, judged-files, judged-puts, on-both}
+use Rattle.monitor_run.proofs.Opened.{with-models, accepted-says}
 use Rattle.monitor_run.proofs.reporting.monitor.Goals as goal
 
 pub returns-in-Ok-clause-says_model : goal.returns-in-Ok-clause-says_model

@@ -1,4 +1,4 @@
-use Rattle.std.proofs.Common.{◌≡◌, ◌++◌, ℕ, ◌≤◌, arith}
+use Rattle.std.proofs.Common.{◌++◌, ◌≤◌, arith}
 use Rattle.telem_csv.specs.Cutter.{current, rows_owed}
 use Rattle.monitor_run.specs.Left.{left_of}
 use Rattle.monitor_run.specs.Files.{report_of, most_telemetry}

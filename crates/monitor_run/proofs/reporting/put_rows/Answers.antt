@@ -1,10 +1,7 @@
-use Rattle.std.proofs.Common.{[], ◌∷◌, ◌++◌, ℕ, List, length, arith, rules, subst, OnOk, OnErr, IfSome, sym}
-use Rattle.std.proofs.lemmas.Grind.{common_steps}
+use Rattle.std.proofs.Common.{[], ◌∷◌, ◌++◌, arith, rules}
 use Rattle.outside_io.proofs.Fronts.{on-ok, on-err}
-use Rattle.plant_model.specs.Plant.{Plant}
 use Rattle.plant_model.specs.Seen.{sample_of}
 use Rattle.telem_csv.specs.Cutter.{rows_owed}
-use Rattle.model_bank.specs.Bank.{BankStands}
 use Rattle.model_bank.specs.Seen.{sample_seen}
 use Rattle.monitor_run.specs.Left.{left_of}
 use Rattle.monitor_run.specs.Rows.{rows_lines}

@@ -1,9 +1,9 @@
-use Rattle.std.proofs.Common.{◌≡◌, ◌+◌, ◌≤◌, ℕ, List, [], ◌++◌, length, false}
-use Rattle.plant_model.specs.Plant.{Plant, Sample}
-use Rattle.telem_csv.specs.Cutter.{current, rows_owed}
+use Rattle.std.proofs.Common.{◌≡◌, ◌+◌, ◌≤◌, List, length, false}
+use Rattle.plant_model.specs.Plant.{Sample}
+use Rattle.telem_csv.specs.Cutter.{current}
 use Rattle.telem_csv.specs.Fed.{is_refusal}
 use Rattle.monitor_run.specs.Left.{left_of}
-use Rattle.monitor_run.specs.Stream.{BothTold, ReadsOn}
+use Rattle.monitor_run.specs.Stream.{ReadsOn}
 use Rattle.monitor_run.proofs.Turns.{Monitored}
 use Rattle.monitor_run.proofs.reporting.put_rows.Given as goal
 
