@@ -25,7 +25,8 @@ pub fn row_times_vector<const R: usize, const N: usize>(
     sum
 }
 
-/// Row `r` of `a` times column `t`, in nano-units times nano-units.
+/// Row `r` of `a` times column `t`, in nano-units times nano-units. Kept out of line: of a row that was widened outside of a loop each product would take 128 bits.
+#[inline(never)]
 pub fn row_times_column<const R: usize, const N: usize>(
     a: &Mat<R, N, Coef>,
     r: usize,

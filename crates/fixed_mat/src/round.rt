@@ -1,10 +1,13 @@
 //! Rounding to nano-units.
 
-ghost use Rattle.std.specs.Prelude.{IsTrue, ◌≡◌, ◌^◌, ◌*◌, ◌-ℤ◌, ◌*ℤ◌, ◌≤◌, pos, ◌≤ℤ◌, unsigned_abs};
+ghost use Rattle.std.specs.Prelude.{◌≡◌, ◌^◌, ◌*◌, ◌-ℤ◌, ◌*ℤ◌, ◌≤◌, pos, ◌≤ℤ◌, unsigned_abs};
 ghost use Rattle.set_rules.specs.Round.{rnd as rnd_of, residue as residue_of, ceil_s as ceil_of, IsLeastCover};
 
 /// Nano-units in one unit.
 pub const S: i128 = 1_000_000_000;
+
+/// What a number is raised by so that it is rounded as one without a sign: a multiple of `S`, and half of it.
+const RAISE: i128 = 9_223_372_037_500_000_000;
 
 /// The nearest whole number to `p / S`, halves upwards.
 pub fn rnd(p: i128) -> i128
@@ -12,11 +15,7 @@ pub fn rnd(p: i128) -> i128
     ensures value { result ≡ rnd_of p }
     ensures near { unsigned_abs (p -ℤ pos 1_000_000_000 *ℤ result) ≤ 500_000_000 }
 {
-    if is_narrow(p) {
-        i128::from(rnd_narrow(p as i64))
-    } else {
-        rnd_wide(p)
-    }
+    rounded(p).nearest
 }
 
 /// `rnd` in 128 bits.
@@ -26,22 +25,6 @@ fn rnd_wide(p: i128) -> i128
     ensures near { unsigned_abs (p -ℤ pos 1_000_000_000 *ℤ result) ≤ 500_000_000 }
 {
     (p + 500_000_000).div_euclid(S)
-}
-
-/// Whether `p` can be rounded in 64 bits, where a division by `S` is a product.
-fn is_narrow(p: i128) -> bool
-    ensures { IsTrue result → unsigned_abs p ≤ 4_000_000_000_000_000_000 }
-{
-    -4_000_000_000_000_000_000 <= p && p <= 4_000_000_000_000_000_000
-}
-
-/// `rnd` in 64 bits.
-fn rnd_narrow(p: i64) -> i64
-    requires { unsigned_abs p ≤ 4_000_000_000_000_000_000 }
-    ensures value { result ≡ rnd_of p }
-    ensures near { unsigned_abs (p -ℤ pos 1_000_000_000 *ℤ result) ≤ 500_000_000 }
-{
-    (p + 500_000_000).div_euclid(1_000_000_000)
 }
 
 /// How far `p` is from `S` times its rounding.
@@ -80,8 +63,9 @@ pub fn rounded(p: i128) -> Rounding
     ensures low { pos 0 ≤ℤ result.residue }
     ensures half { result.residue ≤ℤ pos 500_000_000 }
 {
-    if is_narrow(p) {
-        rounded_narrow(p as i64)
+    let raised = p + RAISE;
+    if 0 <= raised && raised <= 18_446_744_073_709_551_615 {
+        rounded_narrow(raised as u64)
     } else {
         rounded_wide(p)
     }
@@ -103,19 +87,18 @@ fn rounded_wide(p: i128) -> Rounding
     }
 }
 
-/// `rounded` in 64 bits.
-fn rounded_narrow(p: i64) -> Rounding
-    requires { unsigned_abs p ≤ 4_000_000_000_000_000_000 }
-    ensures nearest { result.nearest ≡ rnd_of p }
-    ensures residue { result.residue ≡ residue_of p }
-    ensures near { unsigned_abs (p -ℤ pos 1_000_000_000 *ℤ result.nearest) ≤ 500_000_000 }
+/// `rounded` in 64 bits, where a division by `S` is a product: of the number that was raised to this.
+fn rounded_narrow(raised: u64) -> Rounding
+    ensures nearest { result.nearest ≡ rnd_of (pos raised -ℤ pos 9_223_372_037_500_000_000) }
+    ensures residue { result.residue ≡ residue_of (pos raised -ℤ pos 9_223_372_037_500_000_000) }
+    ensures near { unsigned_abs (pos raised -ℤ pos 9_223_372_037_500_000_000 -ℤ pos 1_000_000_000 *ℤ result.nearest) ≤ 500_000_000 }
     ensures low { pos 0 ≤ℤ result.residue }
     ensures half { result.residue ≤ℤ pos 500_000_000 }
 {
-    let nearest = rnd_narrow(p);
-    let residue = (p - 1_000_000_000 * nearest).abs();
+    let nearest = raised / 1_000_000_000;
+    let left = raised - 1_000_000_000 * nearest;
     Rounding {
-        nearest: i128::from(nearest),
-        residue: i128::from(residue),
+        nearest: i128::from(nearest) - 9_223_372_037,
+        residue: i128::from(left.abs_diff(500_000_000)),
     }
 }
