@@ -91,7 +91,9 @@ impl Coefs {
 }
 
 impl Default for Coefs {
-    fn default() -> Self {
+    fn default() -> Self
+        ensures { result ≡ [] }
+    {
         Coefs::new()
     }
 }

@@ -79,18 +79,35 @@ impl Bank {
         ensures count { self.new.count ≡ self.old.count + 1 }
         ensures k { result.k ≡ self.old.count }
     {
-        let k = self.count;
-        let models = take_all(&mut self.members, k == 0, &self.last, sample);
-        let possible = possible_models(&self.members);
-        let verdict = judge(&possible);
+        let mut record = SampleRec::new();
+        self.step_into(sample, &mut record);
+        record
+    }
+
+    /// The same, with the record put in the place of an earlier one, so that none is made and moved for each sample.
+    pub fn step_into(&mut self, sample: &Sample, record: &mut SampleRec)
+        requires inputs { length sample.now.u.items ≡ self.old.inputs }
+        requires outputs { length sample.now.y.items ≡ self.old.outputs }
+        requires counted { self.old.count < 2 ^ 63 }
+        ensures record { (plants : List Plant) (samples : List TheSample) → BankStands plants samples self.old → sample_seen record.new ≡ sample_answer zonotope_observer plants (samples ++ sample_of sample.now ∷ []) (length samples) }
+        ensures stands { (plants : List Plant) (samples : List TheSample) → BankStands plants samples self.old → BankStands plants (samples ++ sample_of sample.now ∷ []) self.new }
+        ensures inputs { self.new.inputs ≡ self.old.inputs }
+        ensures outputs { self.new.outputs ≡ self.old.outputs }
+        ensures count { self.new.count ≡ self.old.count + 1 }
+        ensures k { record.new.k ≡ self.old.count }
+    {
+        record.k = self.count;
+        take_all(
+            &mut self.members,
+            self.count == 0,
+            &self.last,
+            sample,
+            &mut record.models,
+        );
+        tell_possible(&self.members, &mut record.possible);
+        record.verdict = judge(&record.possible);
         self.count += 1;
         replace(&mut self.last, &sample.u);
-        SampleRec {
-            k,
-            models,
-            possible,
-            verdict,
-        }
     }
 }
 
@@ -117,34 +134,33 @@ fn take_all(
     is_first: bool,
     last: &ArrayVec<i128, 4>,
     sample: &Sample,
-) -> ArrayVec<ModelRec, 16>
+    models: &mut ArrayVec<ModelRec, 16>,
+)
     requires few { length members.old ≤ 16 }
     requires counts { All (HasPlantOf (length sample.now.u.items) (length sample.now.y.items)) members.old }
     requires last_inputs { is_first ≡ false → length last.now.items ≡ length sample.now.u.items }
     requires last_small { AllWithinLimit input_limit last.now.items }
-    ensures answers { map model_seen result.items ≡ answers_of is_first last.now.items (sample_of sample.now) 0 members.old }
+    ensures answers { map model_seen models.new.items ≡ answers_of is_first last.now.items (sample_of sample.now) 0 members.old }
     ensures members { members.new ≡ map (member_after is_first last.now.items (sample_of sample.now)) members.old }
 {
-    let mut models = ArrayVec::new();
+    models.clear();
     for i in 0..members.len() {
         let member = &mut members[i];
         if let Some(model) = member.take(i as u32, is_first, last, sample) {
             models.push(model);
         }
     }
-    models
 }
 
-/// Whether each member is live.
-fn possible_models(members: &[Member]) -> ArrayVec<bool, 16>
+/// Tells whether each member is live.
+fn tell_possible(members: &[Member], possible: &mut ArrayVec<bool, 16>)
     requires { length members.now ≤ 16 }
-    ensures { result.items ≡ map (λ m. m.live) members.now }
+    ensures { possible.new.items ≡ map (λ m. m.live) members.now }
 {
-    let mut possible = ArrayVec::new();
+    possible.clear();
     for member in members {
         possible.push(member.is_live());
     }
-    possible
 }
 
 /// Puts these inputs in the place of the last.

@@ -1,5 +1,5 @@
 //! What a sample makes of the models of a bank.
-ghost use Rattle.std.specs.Prelude.{◌≡◌, true};
+ghost use Rattle.std.specs.Prelude.{◌≡◌, true, []};
 ghost use Rattle.std.specs.List.{list_all};
 ghost use Rattle.observer_step.specs.Seen.{is_printable_interval};
 
@@ -47,4 +47,19 @@ pub struct SampleRec {
     pub possible: ArrayVec<bool, 16>,
     /// The verdict on the models that are possible.
     pub verdict: Verdict,
+}
+
+impl SampleRec {
+    /// A record of no model, for `Bank::step_into` to fill.
+    pub fn new() -> SampleRec
+        ensures models { result.models.items ≡ [] }
+        ensures possible { result.possible.items ≡ [] }
+    {
+        SampleRec {
+            k: 0,
+            models: ArrayVec::new(),
+            possible: ArrayVec::new(),
+            verdict: Verdict::None,
+        }
+    }
 }

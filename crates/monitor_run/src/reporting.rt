@@ -22,7 +22,7 @@ use crate::lines::{put_end, put_head, put_sample};
 use crate::model::read_model;
 use crate::rows::{find_header, next_row};
 use crate::stream::{Stream, StreamFault};
-use model_bank::Bank;
+use model_bank::{Bank, SampleRec};
 use model_file::Bank0;
 use outside_io::{GetFault, PutFault, Shelf, Sink};
 use std::alloc::Global;
@@ -175,10 +175,11 @@ fn put_rows<F: Shelf, O: Sink>(
     ensures at_end { OnOk result (IsAtEnd (F.rest shelf.new 1)) }
     ensures kept { ReadsOn (F.attached shelf.old) (F.attached shelf.new) (F.asked shelf.old) (F.asked shelf.new) (F.rest shelf.old) (F.rest shelf.new) (F.faults shelf.old) (F.faults shelf.new) }
 {
+    let mut record = SampleRec::new();
     'rows: loop {
         match next_row(alloc, stream, shelf, head) {
             Ok(Some(sample)) => {
-                let record = bank.step(&sample);
+                bank.step_into(&sample, &mut record);
                 match put_sample(out, &record) {
                     Ok(()) => {}
                     Err(fault) => return Err(put_ending(fault)),

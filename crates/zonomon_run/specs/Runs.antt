@@ -9,13 +9,17 @@ use Rattle.model_bank.specs.Bank.{plants_in}
 use Rattle.report_rules.specs.Claims.{HullsHold, ExclusionsHold, MissesTold, plant_at}
 use Rattle.monitor_run.specs.Files.{Files, bad_model, bad_header, monitored, files_of, model_refusal, telemetry_refusal, report_of_rows}
 use Rattle.monitor_run.specs.Outcome.{OnBytes, ReadFailed}
-use Rattle.zonomon_run.specs.Words.{asked_by, monitor}
+use Rattle.zonomon_run.specs.Words.{asked_by, monitor, helps, later, faulty}
 use Rattle.zonomon_run.specs.declared.ending.Ending.{Ending}
 use Rattle.zonomon_run.specs.declared.ending.Ending.TheVariants.{ReadModel, ReadTelemetry}
 
 -- what the words `run` name
 abbrev pub OnRun : List (List ℕ) → (List ℕ → List ℕ → Type 0) → Type 0
 OnRun words claim = (model telemetry : List ℕ) → asked_by words ≡ monitor model telemetry → claim model telemetry
+
+-- the words name no file
+abbrev pub NamesNoFile : List (List ℕ) → Type 0
+NamesNoFile words = (asked_by words ≡ helps) ⊎ ((asked_by words ≡ faulty) ⊎ (asked_by words ≡ later))
 
 -- a claim on the model file that the words `run` name, where the shelf tells it
 abbrev pub OnModel : List (List ℕ) → (List ℕ → Option (List ℕ)) → (List ℕ → Type 0) → Type 0

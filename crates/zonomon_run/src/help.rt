@@ -16,6 +16,7 @@ pub fn help<O: Sink, E: Sink>(out: &mut O, err: &mut E) -> u8
     ensures whole { result ≡ 0 → Appends (O.held out.old) (O.held out.new) usage_lines }
     ensures front { AppendsFront (O.held out.old) (O.held out.new) usage_lines }
     ensures write { result ≡ 5 → Rose (O.faults out.old) (O.faults out.new) }
+    ensures memory { result ≡ 6 → Rose (O.wants out.old) (O.wants out.new) }
     ensures silent { result ≡ 0 → E.held err.new ≡ E.held err.old }
     ensures told { result ≢ 0 → (ending : Ending) × (result ≡ status_of ending) × Tells (E.held err.old) (E.held err.new) (E.faults err.old) (E.faults err.new) (E.wants err.old) (E.wants err.new) (text_of ending) }
 {

@@ -9,7 +9,7 @@ ghost use Rattle.monitor_run.specs.Files.{model_refusal, telemetry_refusal, repo
 ghost use Rattle.monitor_run.specs.Whole.{IsAskedAtMost};
 ghost use Rattle.zonomon_run.specs.Words.{asked_by, texts, faulty, helps, later};
 ghost use Rattle.zonomon_run.specs.Ending.{status_of, text_of, usage_lines, model_refusal_text, telemetry_refusal_text, Tells};
-ghost use Rattle.zonomon_run.specs.Runs.{IsAccepted, IsHelpStatus, IsModelRefused, IsTelemetryRefused, IsStatus, OnModel, OnFiles, OnRun, ReadsFailed, NoneRose, TrueHulls, TrueExclusions, TrueMisses};
+ghost use Rattle.zonomon_run.specs.Runs.{IsAccepted, IsHelpStatus, NamesNoFile, IsModelRefused, IsTelemetryRefused, IsStatus, OnModel, OnFiles, OnRun, ReadsFailed, NoneRose, TrueHulls, TrueExclusions, TrueMisses};
 
 use crate::ending::{Ending, tell};
 use crate::files::run_files;
@@ -47,9 +47,11 @@ pub fn run<F: Shelf, O: Sink, E: Sink>(
     ensures telemetry_end { OnRun (texts words.now) (λ _ _. result ≡ 0 → IsAtEnd (F.rest shelf.new 1)) }
     ensures asked { OnRun (texts words.now) (λ model telemetry. IsAskedAtMost (F.asked shelf.new 0) model × IsAskedAtMost (F.asked shelf.new 1) telemetry) }
     ensures asked_no_third { F.asked shelf.new 2 ≡ None }
+    ensures asked_nothing { NamesNoFile (texts words.now) → IsFresh (F.asked shelf.new) }
 
     // What was put to `out`: the whole report or the help at status 0; at 3 the report up to the refused row; at 4, 5 and 6 a front of it; and else nothing.
     ensures helped { asked_by (texts words.now) ≡ helps → result ≡ 0 → Appends (O.held out.old) (O.held out.new) usage_lines }
+    ensures help_memory { asked_by (texts words.now) ≡ helps → result ≡ 6 → Rose (O.wants out.old) (O.wants out.new) }
     ensures help_front { asked_by (texts words.now) ≡ helps → AppendsFront (O.held out.old) (O.held out.new) usage_lines }
     ensures accepted { result ≡ 0 → OnFiles (texts words.now) (F.file shelf.old) IsAccepted }
     ensures report { (result ≡ 0) ⊎ (result ≡ 3) → OnFiles (texts words.now) (F.file shelf.old) (λ f. Appends (O.held out.old) (O.held out.new) (lines_text (report_of f))) }

@@ -33,7 +33,7 @@ rows-preserved g c =
       outputs = search rules;
       taken = (
         c.rows.invariant.taken.0 ++ sample_of c.in-Ok-Some.sample ∷ [],
-        one-more c.rows.invariant.taken.1 c.next_row.new.stream.cutter (left_of c.next_row.new.stream) (g.F.Shelf.rest c.next_row.new.shelf 1) (sample_of c.in-Ok-Some.sample) row c.step-record.new.self (sample_seen c.step-record.result) (g.O.Sink.held c.put_sample.new.out) c.step-record.ensures.stands c.step-record.ensures.record c.step-record.ensures.count c.in-Ok.ensures.ok,
+        one-more c.rows.invariant.taken.1 c.next_row.new.stream.cutter (left_of c.next_row.new.stream) (g.F.Shelf.rest c.next_row.new.shelf 1) (sample_of c.in-Ok-Some.sample) row c.step_into.new.self (sample_seen c.step_into.new.record) (g.O.Sink.held c.put_sample.new.out) c.step_into.ensures.stands c.step_into.ensures.record c.step_into.ensures.count c.in-Ok.ensures.ok,
       );
       room = omega (arith, fewer);
       faults = omega (arith, c.in-Ok.ensures.failed);
@@ -44,7 +44,7 @@ pub returns-in-Err-put_sample-clause-puts : goal.returns-in-Err-put_sample-claus
 returns-in-Err-put_sample-clause-puts g c = λ ps stands.
     let row = rw c.in-Ok-Some.field-0-is at c.in-Ok-Some.ensures.row in
     put-cut c.in-Err-put_sample.fault c.put_ending.result c.put_ending.ensures (g.F.Shelf.rest c.args.shelf.now 1) (g.O.Sink.held c.args.out.now) (g.O.Sink.held c.put_sample.new.out) (λ r. rows_lines ps (rows_owed c.args.head.now c.args.stream.now.cutter (left_of c.args.stream.now ++ r)))
-    (front-more c.rows.invariant.taken.1 c.next_row.new.stream.cutter (left_of c.next_row.new.stream) (g.F.Shelf.rest c.next_row.new.shelf 1) (sample_of c.in-Ok-Some.sample) row c.step-record.new.self (sample_seen c.step-record.result) (g.O.Sink.held c.put_sample.new.out) c.step-record.ensures.stands c.step-record.ensures.record ps stands c.in-Err-put_sample.ensures.err)
+    (front-more c.rows.invariant.taken.1 c.next_row.new.stream.cutter (left_of c.next_row.new.stream) (g.F.Shelf.rest c.next_row.new.shelf 1) (sample_of c.in-Ok-Some.sample) row c.step_into.new.self (sample_seen c.step_into.new.record) (g.O.Sink.held c.put_sample.new.out) c.step_into.ensures.stands c.step_into.ensures.record ps stands c.in-Err-put_sample.ensures.err)
 
 pub returns-in-Ok-None-clause-says : goal.returns-in-Ok-None-clause-says
 returns-in-Ok-None-clause-says g c =
