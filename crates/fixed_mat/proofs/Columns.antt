@@ -1,12 +1,12 @@
 -- Flat storage as a list of columns.
-use Rattle.std.proofs.Common.{◌≡◌, ℕ, zero, suc, ◌+◌, ◌-◌, ◌*◌, ◌^◌, ◌<◌, ◌≤◌, List, [], ◌∷◌, ◌++◌, length, length-append, get_or, take, drop, map, pos, ℤ, arith, sym, ◌∙◌, ap, mul-le-mul_right, length-drop, get_or-take, get_or-drop, drop_of_length-le, take-take, mul-le-mul, ◌⊎◌, ⊎_elim, ◌≢◌, set, get_or-set_same, get_or-set_other, length-set, subst, unsigned_abs, refl}
+use Rattle.std.proofs.Common.{◌≡◌, ℕ, zero, suc, ◌+◌, ◌-◌, ◌*◌, ◌^◌, ◌<◌, ◌≤◌, List, [], ◌∷◌, ◌++◌, length, length-append, get_or, take, drop, pos, ℤ, arith, sym, ◌∙◌, ap, mul-le-mul_right, length-drop, get_or-take, get_or-drop, drop_of_length-le, take-take, mul-le-mul, ◌⊎◌, ⊎_elim, ◌≢◌, set, get_or-set_same, get_or-set_other, length-set, subst, unsigned_abs, refl}
 use Rattle.std.proofs.lemmas.List.{take_all, take-append-le, drop-append-le, drop-take, ext_get_or, append_assoc, append-nil, length-take-le, get_or-append_right}
 use Rattle.std.proofs.lemmas.Slice.{between-put_mid, take-put_mid_below, drop-put_mid, put_mid-paste}
 use Rattle.std.proofs.lemmas.List.Edits.{length-paste, paste_more}
 use borrow.Rule.Slice.PartMut.{put_mid}
-use Rattle.std.proofs.lemmas.List.FromFn.{length-map-range_with_len, get_or-map-range_with_len, map-range_with_len_more, take-map-range_with_len, fill_by_all}
+use Rattle.std.proofs.lemmas.List.FromFn.{length-map-range_with_len, get_or-map-range_with_len, map-range_with_len_more, take-map-range_with_len}
 use Rattle.std.proofs.lemmas.List.Elements.{All-append, All-take, All-drop}
-use Rattle.std.specs.List.{All, range_with_len, refill}
+use Rattle.std.specs.List.{All, refill}
 use lib.Seq.{paste}
 use Rattle.fixed_mat.specs.Cols.{columns_of, IsCols}
 use Rattle.set_rules.specs.Columns.{column_entry, tabulate}

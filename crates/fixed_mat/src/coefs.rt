@@ -38,6 +38,14 @@ impl Coefs {
         }
     }
 
+    /// Takes all coefficients away.
+    pub fn clear(&mut self)
+        ensures { self.new ≡ [] }
+    {
+        self.items.clear();
+        self.sum = 0;
+    }
+
     /// How many coefficients there are.
     pub fn len(&self) -> usize
         ensures value { result ≡ length self.now }

@@ -20,12 +20,13 @@ pub fn row_times_vector<const R: usize, const N: usize>(
 {
     let mut sum = 0;
     for l in 0..N {
-        sum += a.at(r, l) * x.at(l, 0);
+        sum += times(a.at(r, l), x.at(l, 0));
     }
     sum
 }
 
-/// Row `r` of `a` times column `t`, in nano-units times nano-units.
+/// Row `r` of `a` times column `t`, in nano-units times nano-units. Kept out of line: of a row that was widened outside of a loop each product would take 128 bits.
+#[inline(never)]
 pub fn row_times_column<const R: usize, const N: usize>(
     a: &Mat<R, N, Coef>,
     r: usize,
@@ -40,7 +41,7 @@ pub fn row_times_column<const R: usize, const N: usize>(
     let column = cols.column(t);
     let mut sum = 0;
     for l in 0..N {
-        sum += a.at(r, l) * column[l];
+        sum += times(a.at(r, l), column[l]);
     }
     sum
 }
@@ -52,4 +53,14 @@ pub fn dot<const N: usize>(row: &Mat<1, N, Coef>, cols: &Cols<N>, t: usize) -> i
     ensures within { unsigned_abs result ≤ N * 10 ^ 30 }
 {
     row_times_column(row, 0, cols, t)
+}
+
+/// `x` times `y`: a product of two numbers that fit 64 bits is one instruction.
+fn times(x: i128, y: i128) -> i128
+    requires left { unsigned_abs x ≤ 1_000_000_000_000 }
+    requires right { unsigned_abs y ≤ 1_000_000_000_000_000_000 }
+    ensures value { result ≡ x *ℤ y }
+    ensures within { unsigned_abs result ≤ 10 ^ 30 }
+{
+    i128::from(x as i64) * i128::from(y as i64)
 }

@@ -17,7 +17,7 @@ use crate::readings::{missed, take_readings};
 use crate::{Kept, Outcome};
 use arrayvec::ArrayVec;
 use farkas_check::Cert;
-use fixed_mat::Mat;
+use fixed_mat::{Coefs, Mat};
 use plant_model::{Plant, Sample};
 use std::marker::Model;
 use zono_set::Zono;
@@ -26,6 +26,8 @@ use zono_set::Zono;
 #[derive(Drop)]
 pub struct Est<const N: usize> {
     plain: Zono<N>,
+    /// Room for the row of a reading, so that no sample makes it anew.
+    row: Coefs,
 }
 
 impl<const N: usize> Model for Est<N> {
@@ -46,6 +48,7 @@ impl<const N: usize> Est<N> {
     {
         Est {
             plain: first_box(plant),
+            row: Coefs::new(),
         }
     }
 
@@ -112,7 +115,7 @@ impl<const N: usize> Est<N> {
         match missed(outs, &sample.y) {
             Some(o) => Outcome::Excluded(Cert::Out(o as u32)),
             None => {
-                take_readings(&mut self.plain, plant, sample);
+                take_readings(&mut self.plain, &mut self.row, plant, sample);
                 Outcome::Fits
             }
         }
@@ -150,10 +153,19 @@ fn move_on<const N: usize>(set: &mut Zono<N>, plant: &Plant<N>, u: &[i128]) -> K
     match set.image(plant.a(), &shift(plant, u), plant.e(), plant.dists()) {
         Ok(()) => Kept::Imaged,
         Err(_) => {
-            *set = state_box(plant);
+            widen(set, plant);
             Kept::Widened
         }
     }
+}
+
+/// Makes the set the state box. Kept out of line, since room for a box is to be made only where one is.
+#[inline(never)]
+fn widen<const N: usize>(set: &mut Zono<N>, plant: &Plant<N>)
+    ensures value { set.new ≡ state_box_of plant.now }
+    ensures room { length set.new.columns ≤ 64 }
+{
+    *set = state_box(plant);
 }
 
 /// The predicted interval of each output.

@@ -12,7 +12,7 @@ ghost use Rattle.observer_step.specs.Predicted.{reading_misses};
 ghost use Rattle.observer_step.specs.Estimate.{correct, correct_reading};
 
 use crate::inputs::through;
-use fixed_mat::Reading;
+use fixed_mat::{Coefs, Reading};
 use plant_model::{Plant, Sample};
 use row_drop::gain;
 use zono_set::Zono;
@@ -43,8 +43,13 @@ fn misses(ends: (i128, i128), reading: Reading) -> bool
     }
 }
 
-/// Takes the readings of a sample, in order.
-pub fn take_readings<const N: usize>(set: &mut Zono<N>, plant: &Plant<N>, sample: &Sample)
+/// Takes the readings of a sample, in order; `row` is room for the row of each.
+pub fn take_readings<const N: usize>(
+    set: &mut Zono<N>,
+    row: &mut Coefs,
+    plant: &Plant<N>,
+    sample: &Sample,
+)
     requires inputs { length sample.now.u.items ≡ plant.now.inputs }
     requires outputs { length sample.now.y.items ≡ plant.now.outputs }
     requires room { length set.old.columns ≤ 64 }
@@ -52,12 +57,18 @@ pub fn take_readings<const N: usize>(set: &mut Zono<N>, plant: &Plant<N>, sample
     ensures room { length set.new.columns ≤ 64 }
 {
     for o in 0..plant.outputs() {
-        take_reading(set, plant, sample, o);
+        take_reading(set, row, plant, sample, o);
     }
 }
 
 /// Takes the reading of output `o`, if there is one.
-fn take_reading<const N: usize>(set: &mut Zono<N>, plant: &Plant<N>, sample: &Sample, o: usize)
+fn take_reading<const N: usize>(
+    set: &mut Zono<N>,
+    row: &mut Coefs,
+    plant: &Plant<N>,
+    sample: &Sample,
+    o: usize,
+)
     requires inputs { length sample.now.u.items ≡ plant.now.inputs }
     requires outputs { length sample.now.y.items ≡ plant.now.outputs }
     requires output { o < plant.now.outputs }
@@ -67,13 +78,14 @@ fn take_reading<const N: usize>(set: &mut Zono<N>, plant: &Plant<N>, sample: &Sa
 {
     match sample.y[o] {
         Reading::Missing => {}
-        Reading::Value { v, slack } => take_value(set, plant, &sample.u, o, v, slack),
+        Reading::Value { v, slack } => take_value(set, row, plant, &sample.u, o, v, slack),
     }
 }
 
 /// Takes the reading `v` of output `o`: its row by its gains where the set takes it, and then at most 48 columns.
 fn take_value<const N: usize>(
     set: &mut Zono<N>,
+    row: &mut Coefs,
     plant: &Plant<N>,
     u: &[i128],
     o: usize,
@@ -91,13 +103,14 @@ fn take_value<const N: usize>(
     ensures room { length set.new.columns ≤ 64 }
 {
     let _ = plant.states();
-    let row = set.strip_row(
+    let right = set.fill_strip_row(
         &plant.c_row(o),
         through(plant, u, o),
         v,
         plant.noise(o) + slack,
+        row,
     );
-    let gains = gain(set.cols(), &row.a);
-    set.substitute(&row.a, row.b, &gains);
+    let gains = gain(set.cols(), row);
+    set.substitute(row, right, &gains);
     set.reduce(48);
 }

@@ -15,7 +15,7 @@ pub fn shift_of<const N: usize>(cols: &Cols<N>, a: &Coefs) -> u32
     ensures columns { greatest_entry cols.now / 2 ^ result < 2 ^ 40 }
     ensures row { greatest a.now / 2 ^ result < 2 ^ 40 }
 {
-    shift_below_limit(greatest_in_cols(cols).max(greatest_in_coefs(a)))
+    shift_below_limit(u128::from(greatest_in_cols(cols)).max(greatest_in_coefs(a)))
 }
 
 /// The least number of halvings that brings `size` below `2 ^ 40`.
@@ -33,7 +33,7 @@ fn shift_below_limit(size: u128) -> u32
 }
 
 /// The greatest magnitude in the columns.
-fn greatest_in_cols<const N: usize>(cols: &Cols<N>) -> u128
+fn greatest_in_cols<const N: usize>(cols: &Cols<N>) -> u64
     ensures { result ≡ greatest_entry cols.now }
 {
     let mut most = 0;
@@ -43,13 +43,15 @@ fn greatest_in_cols<const N: usize>(cols: &Cols<N>) -> u128
     most
 }
 
-/// The greatest magnitude in a column.
-fn greatest_in(column: &[i128]) -> u128
+/// The greatest magnitude in a column, whose entries fit 64 bits.
+fn greatest_in(column: &[i128]) -> u64
+    requires { All (λ z. unsigned_abs z ≤ 1_000_000_000_000_000_000) column.now }
     ensures { result ≡ greatest column.now }
 {
     let mut most = 0;
     for entry in column {
-        most = entry.unsigned_abs().max(most);
+        let size = (*entry as i64).unsigned_abs();
+        most = size.max(most);
     }
     most
 }
@@ -72,6 +74,9 @@ pub fn shrunk(v: i128, halvings: u32) -> i64
     ensures value { result ≡ shrunk_value halvings v }
     ensures within { unsigned_abs result < 2 ^ 40 }
 {
+    if halvings == 0 {
+        return v as i64;
+    }
     let size = (v.unsigned_abs() >> halvings) as i64;
     if v < 0 { -size } else { size }
 }

@@ -30,8 +30,32 @@ impl<const N: usize> Zono<N> {
         ensures within { unsigned_abs result.b ≤ 10_000_000_000_000_000_000_000 }
         ensures holds { StripHolds N c_row.now du y f self.now }
     {
-        let middle = self.output_middle(c_row, du);
         let mut a = Coefs::new();
+        let b = self.fill_strip_row(c_row, du, y, f, &mut a);
+        StripRow { a, b }
+    }
+
+    /// The same, with the coefficients in the place of those that were in `a`, so that no room is made for them; gives the right side.
+    pub fn fill_strip_row(
+        &self,
+        c_row: &Mat<1, N, Coef>,
+        du: i128,
+        y: i128,
+        f: i128,
+        a: &mut Coefs,
+    ) -> i128
+        requires input { unsigned_abs du ≤ 10 ^ 28 }
+        requires reading { unsigned_abs y ≤ 10 ^ 18 }
+        requires noise_low { pos 0 ≤ℤ f }
+        requires noise_high { f ≤ℤ pos (10 ^ 18 + 1) }
+        requires room { length self.now.columns < 128 }
+        ensures coefficients { a.new ≡ (strip_row_of N c_row.now du y f self.now).coefficients }
+        ensures right { result ≡ (strip_row_of N c_row.now du y f self.now).right }
+        ensures within { unsigned_abs result ≤ 10_000_000_000_000_000_000_000 }
+        ensures holds { StripHolds N c_row.now du y f self.now }
+    {
+        let middle = self.output_middle(c_row, du);
+        a.clear();
         let mut left = 0;
         for t in 0..self.cols.len() {
             let product = rounded_column(c_row, 0, &self.cols, t);
@@ -39,10 +63,7 @@ impl<const N: usize> Zono<N> {
             left += product.residue;
         }
         a.push(f + ceil_s(middle.residue + left)).unwrap();
-        StripRow {
-            a,
-            b: y - middle.nearest,
-        }
+        y - middle.nearest
     }
 
     /// The interval in which the set predicts the output `(c_row x + du) / S`, with noise within `f`: its ends, within `10 ^ 24`.

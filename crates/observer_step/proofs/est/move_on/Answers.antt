@@ -48,7 +48,7 @@ leaves g c =
     c.reduce.new.self c.reduce.ensures.value c.in-Err.field-0.i c.in-Err.field-0.mag c.in-Err.ensures.refused.0 c.in-Err.ensures.refused.1
 
 pub returns-in-Err-clause-value : goal.returns-in-Err-clause-value
-returns-in-Err-clause-value g c = widened c.args.plant.now c.args.u.now c.args.set.now c.state_box.result c.state_box.ensures.value (leaves g (goal.at.returns-in-Err-clause-value g c).In-Err)
+returns-in-Err-clause-value g c = widened c.args.plant.now c.args.u.now c.args.set.now c.widen.new.set c.widen.ensures.value (leaves g (goal.at.returns-in-Err-clause-value g c).In-Err)
 
 pub returns-in-Err-clause-kept : goal.returns-in-Err-clause-kept
 returns-in-Err-clause-kept g c = sym (leaves g (goal.at.returns-in-Err-clause-kept g c).In-Err)

@@ -13,9 +13,9 @@ use Rattle.fixed_mat.proofs.Bits.{back, sum_on, sum_back, next_sum}
 use Rattle.fixed_mat.proofs.Columns.{pushes}
 use Rattle.zono_set.proofs.Bound.{total-prefix, sum_by-tabulate}
 use Rattle.zono_set.proofs.Steps.{first_row, sum_behind, ok_unless, slack_small, difference_back}
-use Rattle.zono_set.proofs.zono.Zono.strip_row.Given.{Over}
-use Rattle.zono_set.proofs.zono.Zono.strip_row.Goals as goal
-use Rattle.zono_set.proofs.zono.Zono.strip_row.Goals.{After-rounded_column-product, After-ceil_s}
+use Rattle.zono_set.proofs.zono.Zono.fill_strip_row.Given.{Over}
+use Rattle.zono_set.proofs.zono.Zono.fill_strip_row.Goals as goal
+use Rattle.zono_set.proofs.zono.Zono.fill_strip_row.Goals.{After-rounded_column-product, After-ceil_s}
 
 pub push-requires : goal.push-requires
 push-requires g c =
@@ -44,7 +44,7 @@ unwrap-requires g c =
     ok_unless c.push.result _ c.push.ensures.refused.0 (λ past. omega (arith, ints))
 
 pub loop-t-init : goal.loop-t-init
-loop-t-init g c = record { made = c.new-a.ensures; left = sym (total-zero _); left_low = omega (arith, ints); left_high = omega (arith, ints) }
+loop-t-init g c = record { made = c.clear.ensures; left = sym (total-zero _); left_low = omega (arith, ints); left_high = omega (arith, ints) }
 
 pub loop-t-preserved : goal.loop-t-preserved
 loop-t-preserved g c =
