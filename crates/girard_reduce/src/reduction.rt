@@ -45,7 +45,7 @@ pub fn reduce_in_place<const N: usize>(cols: &mut Cols<N>, max: usize)
 }
 
 /// The key of each column: the sum of its magnitudes less the greatest of them.
-fn keys<const N: usize>(cols: &Cols<N>) -> ArrayVec<i64, 128>
+fn keys<const N: usize>(cols: &Cols<N>) -> ArrayVec<i128, 128>
     ensures { result.items ≡ tabulate (length cols.now) (key_at cols.now) }
 {
     let mut keys = ArrayVec::new();
@@ -55,8 +55,8 @@ fn keys<const N: usize>(cols: &Cols<N>) -> ArrayVec<i64, 128>
     keys
 }
 
-/// The sum of the magnitudes in a column less the greatest of them: of at most seven others, so that it fits 64 bits.
-fn key(column: &[i128]) -> i64
+/// The sum of the magnitudes in a column less the greatest of them. At most eight of them, so that they are added up in 64 bits.
+fn key(column: &[i128]) -> i128
     requires short { length column.now ≤ 8 }
     requires within { All (λ z. unsigned_abs z ≤ 1_000_000_000_000_000_000) column.now }
     ensures { result ≡ pos (key_of column.now) }
@@ -68,7 +68,7 @@ fn key(column: &[i128]) -> i64
         sum += size;
         greatest = size.max(greatest);
     }
-    (sum - greatest) as i64
+    (sum - greatest) as i128
 }
 
 /// For each row the sum of the magnitudes in the columns that are not marked.
