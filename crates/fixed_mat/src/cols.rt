@@ -135,7 +135,7 @@ impl<const N: usize> Cols<N> {
     {
         let mut sum = 0;
         for t in 0..self.len() {
-            sum += self.at(i, t).abs();
+            sum += i128::from((self.at(i, t) as i64).unsigned_abs());
         }
         sum
     }

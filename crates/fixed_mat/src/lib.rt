@@ -13,7 +13,7 @@ pub use cols::Cols;
 pub use mat::{Coef, Limit, Mat, OverLimit, Range, Raw};
 pub use products::{dot, row_times_column, row_times_vector};
 pub use reading::Reading;
-pub use round::{Rounding, S, ceil_s, residue, rnd, rounded};
+pub use round::{NarrowRounding, Rounding, S, ceil_s, narrow_rounding, residue, rnd, rounded};
 
 /// The greatest magnitude of a coefficient of a plant, and of a gain, in nano-units.
 pub const COEF: u128 = 1_000_000_000_000;

@@ -1,12 +1,14 @@
 //! A row times a set, rounded.
 
-ghost use Rattle.std.specs.Prelude.{◌≡◌, ◌<◌, ◌≤◌, ◌^◌, length, pos, ◌≤ℤ◌, ◌+ℤ◌, ◌-ℤ◌, ◌*ℤ◌, ◌*◌, unsigned_abs};
+ghost use Rattle.std.specs.Prelude.{IsTrue, ◌≡◌, ◌<◌, ◌≤◌, ◌^◌, length, pos, ◌≤ℤ◌, ◌+ℤ◌, ◌-ℤ◌, ◌*ℤ◌, ◌*◌, unsigned_abs};
+ghost use Rattle.std.specs.List.{sum_by};
 ghost use Rattle.set_rules.specs.Sum.{total, magnitude};
 ghost use Rattle.set_rules.specs.Columns.{at, entry, column_entry};
 ghost use Rattle.set_rules.specs.Round.{rnd as rnd_of, residue as residue_of};
 
 use fixed_mat::{
-    Coef, Coefs, Cols, Mat, Range, Rounding, rounded, row_times_column, row_times_vector,
+    Coef, Coefs, Cols, Mat, Range, Rounding, narrow_rounding, rounded, row_times_column,
+    row_times_vector,
 };
 
 /// Row `r` of `a` times the centre, and `shift` more, rounded.
@@ -94,6 +96,57 @@ pub fn rounded_share(gain: i128, v: i128) -> Rounding
 
 /// Over all columns less the share that a gain takes of the row: the sum of the magnitudes in row `i`, and of what the rounding leaves.
 pub fn share_sums<const N: usize>(cols: &Cols<N>, i: usize, gain: i128, a: &Coefs) -> RowSums
+    requires row { i < N }
+    requires gain { unsigned_abs gain ≤ 10 ^ 12 }
+    ensures size { result.size ≡ total (length a.now) (λ t. magnitude (column_entry cols.now i t -ℤ rnd_of (gain *ℤ at a.now t))) }
+    ensures left { result.left ≡ total (length a.now) (λ t. residue_of (gain *ℤ at a.now t)) }
+    ensures size_low { pos 0 ≤ℤ result.size }
+    ensures size_high { result.size ≤ℤ pos (10 ^ 28) }
+    ensures left_low { pos 0 ≤ℤ result.left }
+    ensures left_high { result.left ≤ℤ pos (10 ^ 12) }
+{
+    if has_narrow_shares(gain, a) {
+        narrow_share_sums(cols, i, gain as i64, a)
+    } else {
+        wide_share_sums(cols, i, gain, a)
+    }
+}
+
+/// Whether each product of a gain with a number of the row fits 64 bits.
+fn has_narrow_shares(gain: i128, a: &Coefs) -> bool
+    requires { unsigned_abs gain ≤ 10 ^ 12 }
+    ensures numbers { IsTrue result → sum_by unsigned_abs a.now ≤ 9_000_000_000_000_000_000 }
+    ensures products { IsTrue result → unsigned_abs gain * sum_by unsigned_abs a.now ≤ 9_000_000_000_000_000_000 }
+{
+    a.sum() <= 9_000_000_000_000_000_000
+        && gain.unsigned_abs() * a.sum() <= 9_000_000_000_000_000_000
+}
+
+/// The same sums in 64 bits.
+fn narrow_share_sums<const N: usize>(cols: &Cols<N>, i: usize, gain: i64, a: &Coefs) -> RowSums
+    requires row { i < N }
+    requires numbers { sum_by unsigned_abs a.now ≤ 9_000_000_000_000_000_000 }
+    requires products { unsigned_abs gain * sum_by unsigned_abs a.now ≤ 9_000_000_000_000_000_000 }
+    ensures size { result.size ≡ total (length a.now) (λ t. magnitude (column_entry cols.now i t -ℤ rnd_of (gain *ℤ at a.now t))) }
+    ensures left { result.left ≡ total (length a.now) (λ t. residue_of (gain *ℤ at a.now t)) }
+    ensures size_low { pos 0 ≤ℤ result.size }
+    ensures size_high { result.size ≤ℤ pos (10 ^ 28) }
+    ensures left_low { pos 0 ≤ℤ result.left }
+    ensures left_high { result.left ≤ℤ pos (10 ^ 12) }
+{
+    let mut size = 0;
+    let mut left = 0;
+    for t in 0..a.len() {
+        let share = narrow_rounding(gain * a.at(t) as i64);
+        let entry = entry_or_zero(cols, i, t) as i64;
+        size += i128::from((entry - share.nearest).unsigned_abs());
+        left += i128::from(share.residue);
+    }
+    RowSums { size, left }
+}
+
+/// The same sums in 128 bits.
+fn wide_share_sums<const N: usize>(cols: &Cols<N>, i: usize, gain: i128, a: &Coefs) -> RowSums
     requires row { i < N }
     requires gain { unsigned_abs gain ≤ 10 ^ 12 }
     ensures size { result.size ≡ total (length a.now) (λ t. magnitude (column_entry cols.now i t -ℤ rnd_of (gain *ℤ at a.now t))) }
