@@ -13,7 +13,7 @@ ghost use Rattle.model_bank.specs.Steps.{set_ahead, widens, answer_on, answer_of
 
 use crate::ModelRec;
 use arrayvec::ArrayVec;
-use observer_step::{Est, Kept, Outcome};
+use observer_step::{Est, Judgement, Kept, Outcome};
 use plant_model::{Plant, Sample};
 use std::marker::Model;
 
@@ -111,8 +111,10 @@ fn judge<const N: usize>(
     ensures answer { model_seen result ≡ record { index = index; answer = answer_on plant.now (sample_of sample.now) estimate.old.plain (was_widened kept) } }
     ensures set { estimate.new.plain ≡ set_on plant.now (sample_of sample.now) estimate.old.plain }
 {
-    let preds = estimate.outs(plant, &sample.u);
-    let outcome = estimate.correct_by(plant, sample, &preds);
+    let Judgement {
+        outs: preds,
+        outcome,
+    } = estimate.judge(plant, sample);
     let hulls = if fits(&outcome) {
         hulls(plant, estimate)
     } else {

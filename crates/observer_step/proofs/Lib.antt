@@ -6,3 +6,5 @@ pub mod Products
 pub mod Imaged
 pub mod Taken
 pub mod Judged
+pub mod Intervals
+pub mod FirstReadings

@@ -35,12 +35,14 @@ predict p u z = if leaves_range p u z then state_box p else image_of p u (trim p
 abbrev pub row_of : Plant → List ℤ → ℕ → Present → Zono → Row
 row_of p u o r z = strip_row p.states (output_row p o) (through_of p u o) r.value (at p.noise o +ℤ r.slack) z
 
--- the set after one reading, if there is one: its row is substituted where that is used
+-- the set after a row: substituted by its gains where that is used, and reduced
+abbrev pub take_row : ℕ → Row → Zono → Zono
+take_row n row z = trim n (substitute n (gain n z.columns row.coefficients) row z)
+
+-- the set after one reading, if there is one
 unfoldable pub correct_reading : Plant → List ℤ → ℕ → Option Present → Zono → Zono
 correct_reading p u o None z = z
-correct_reading p u o (Some r) z =
-    let row = row_of p u o r z in
-    trim p.states (substitute p.states (gain p.states z.columns row.coefficients) row z)
+correct_reading p u o (Some r) z = take_row p.states (row_of p u o r z) z
 
 -- the set after the readings of the first m outputs, in order
 unfoldable pub corrected_after : Plant → Sample → ℕ → Zono → Zono

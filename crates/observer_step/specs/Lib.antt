@@ -3,3 +3,4 @@ pub mod Estimate
 pub mod Answers
 pub mod Seen
 pub mod Laws
+pub mod Ahead

@@ -7,14 +7,15 @@ ghost use Rattle.set_rules.specs.Limits.{input_limit};
 ghost use Rattle.farkas_check.specs.Certificate.{by_out};
 ghost use Rattle.plant_model.specs.Plant.{AllWithinLimit};
 ghost use Rattle.plant_model.specs.Seen.{sample_of};
-ghost use Rattle.observer_step.specs.Predicted.{first_set, out_of, predicted_outs, due};
+ghost use Rattle.observer_step.specs.Predicted.{first_set, predicted_outs, due};
 ghost use Rattle.observer_step.specs.Estimate.{leaves_range, predict as predict_of, correct as correct_of, state_box as state_box_of, StandsReady, LeadsOn};
 ghost use Rattle.observer_step.specs.Answers.{Judges};
 ghost use Rattle.observer_step.specs.Seen.{was_widened, certificate_in, is_printable_interval};
 
-use crate::inputs::{shift, through};
+use crate::ahead::{Ahead, look_ahead, predicted};
+use crate::inputs::shift;
 use crate::readings::{missed, take_readings};
-use crate::{Kept, Outcome};
+use crate::{Judgement, Kept, Outcome};
 use arrayvec::ArrayVec;
 use farkas_check::Cert;
 use fixed_mat::{Coefs, Mat};
@@ -92,33 +93,30 @@ impl<const N: usize> Est<N> {
         ensures excluded { IsSome (certificate_in result) → self.new ≡ self.old }
         ensures stands { Judges plant.now (sample_of sample.now) self.old self.new (certificate_in result) }
     {
-        let outs = self.outs(plant, &sample.u);
-        self.correct_by(plant, sample, &outs)
+        self.judge(plant, sample).outcome
     }
 
-    /// The same, where the intervals that `outs` predicts are at hand, so that they are not computed twice.
-    pub fn correct_by(
-        &mut self,
-        plant: &Plant<N>,
-        sample: &Sample,
-        outs: &[(i128, i128)],
-    ) -> Outcome
+    /// What `outs` and `correct` say of the sample, by one computation: the row of the first reading gives its predicted interval too.
+    pub fn judge(&mut self, plant: &Plant<N>, sample: &Sample) -> Judgement
         requires inputs { length sample.now.u.items ≡ plant.now.inputs }
         requires outputs { length sample.now.y.items ≡ plant.now.outputs }
-        requires predicted { outs.now ≡ predicted_outs plant.now sample.now.u.items self.old.plain }
-        ensures outcome { certificate_in result ≡ option_map by_out (due plant.now (sample_of sample.now) self.old.plain) }
-        ensures fits { certificate_in result ≡ None → self.new.plain ≡ correct_of plant.now (sample_of sample.now) self.old.plain }
-        ensures excluded { IsSome (certificate_in result) → self.new ≡ self.old }
-        ensures stands { Judges plant.now (sample_of sample.now) self.old self.new (certificate_in result) }
+        ensures outs { result.outs.items ≡ predicted_outs plant.now sample.now.u.items self.old.plain }
+        ensures printable { list_all is_printable_interval result.outs.items ≡ true }
+        ensures outcome { certificate_in result.outcome ≡ option_map by_out (due plant.now (sample_of sample.now) self.old.plain) }
+        ensures fits { certificate_in result.outcome ≡ None → self.new.plain ≡ correct_of plant.now (sample_of sample.now) self.old.plain }
+        ensures excluded { IsSome (certificate_in result.outcome) → self.new ≡ self.old }
+        ensures stands { Judges plant.now (sample_of sample.now) self.old self.new (certificate_in result.outcome) }
     {
         let _ = plant.outputs();
-        match missed(outs, &sample.y) {
+        let Ahead { outs, first } = look_ahead(&self.plain, &mut self.row, plant, sample);
+        let outcome = match missed(&outs, &sample.y) {
             Some(o) => Outcome::Excluded(Cert::Out(o as u32)),
             None => {
-                take_readings(&mut self.plain, &mut self.row, plant, sample);
+                take_readings(&mut self.plain, &mut self.row, plant, sample, first);
                 Outcome::Fits
             }
-        }
+        };
+        Judgement { outs, outcome }
     }
 }
 
@@ -166,37 +164,4 @@ fn widen<const N: usize>(set: &mut Zono<N>, plant: &Plant<N>)
     ensures room { length set.new.columns ≤ 64 }
 {
     *set = state_box(plant);
-}
-
-/// The predicted interval of each output.
-fn predicted<const N: usize>(
-    set: &Zono<N>,
-    plant: &Plant<N>,
-    u: &[i128],
-) -> ArrayVec<(i128, i128), 6>
-    requires count { length u.now ≡ plant.now.inputs }
-    requires small { AllWithinLimit input_limit u.now }
-    requires room { length set.now.columns ≤ 64 }
-    ensures value { result.items ≡ predicted_outs plant.now u.now set.now }
-    ensures printable { list_all is_printable_interval result.items ≡ true }
-{
-    let mut outs = ArrayVec::new();
-    for o in 0..plant.outputs() {
-        outs.push(interval(set, plant, u, o));
-    }
-    outs
-}
-
-/// The predicted interval of output `o`.
-fn interval<const N: usize>(set: &Zono<N>, plant: &Plant<N>, u: &[i128], o: usize) -> (i128, i128)
-    requires count { length u.now ≡ plant.now.inputs }
-    requires small { AllWithinLimit input_limit u.now }
-    requires output { o < plant.now.outputs }
-    requires room { length set.now.columns ≤ 64 }
-    ensures value { result ≡ out_of plant.now u.now set.now o }
-    ensures low { unsigned_abs result.0 ≤ 10 ^ 24 }
-    ensures high { unsigned_abs result.1 ≤ 10 ^ 24 }
-{
-    let _ = plant.states();
-    set.out_interval(&plant.c_row(o), through(plant, u, o), plant.noise(o))
 }

@@ -1,5 +1,6 @@
 //! What a sample makes of one model.
 
+use arrayvec::ArrayVec;
 use farkas_check::Cert;
 
 /// How the set of a model came to a sample.
@@ -18,4 +19,12 @@ pub enum Outcome {
     Fits,
     /// The model has no trajectory, by this certificate.
     Excluded(Cert),
+}
+
+/// What a model predicts of a sample, and what the sample says of it.
+#[derive(Drop)]
+pub struct Judgement {
+    /// The predicted interval of each output, in nano-units.
+    pub outs: ArrayVec<(i128, i128), 6>,
+    pub outcome: Outcome,
 }

@@ -1,6 +1,6 @@
 //! The readings of a sample: which of them misses, and what they leave of a set.
 
-ghost use Rattle.std.specs.Prelude.{◌≡◌, ◌<◌, ◌≤◌, ◌^◌, length, pos, Some, IfSome, ◌≤ℤ◌, unsigned_abs, slice_index_or};
+ghost use Rattle.std.specs.Prelude.{◌≡◌, ◌+◌, ◌<◌, ◌≤◌, ◌^◌, length, pos, IfSome, ◌≤ℤ◌, unsigned_abs, slice_index_or};
 ghost use Rattle.std.specs.List.{All};
 ghost use Rattle.set_rules.specs.Limits.{input_limit};
 ghost use Rattle.set_rules.specs.Tests.{first_below};
@@ -9,8 +9,10 @@ ghost use Rattle.fixed_mat.specs.declared.reading.Reading.TheVariants.{Missing};
 ghost use Rattle.plant_model.specs.Plant.{AllWithinLimit, IsReading, known, reading_at};
 ghost use Rattle.plant_model.specs.Seen.{sample_of};
 ghost use Rattle.observer_step.specs.Predicted.{reading_misses};
-ghost use Rattle.observer_step.specs.Estimate.{correct, correct_reading};
+ghost use Rattle.observer_step.specs.Ahead.{IsFirst};
+ghost use Rattle.observer_step.specs.Estimate.{correct, correct_reading, row_of, take_row as take_row_of};
 
+use crate::ahead::FirstReading;
 use crate::inputs::through;
 use fixed_mat::{Coefs, Reading};
 use plant_model::{Plant, Sample};
@@ -43,21 +45,30 @@ fn misses(ends: (i128, i128), reading: Reading) -> bool
     }
 }
 
-/// Takes the readings of a sample, in order; `row` is room for the row of each.
+/// Takes the readings of a sample, in order, of which the room `row` holds the row of the first.
 pub fn take_readings<const N: usize>(
     set: &mut Zono<N>,
     row: &mut Coefs,
     plant: &Plant<N>,
     sample: &Sample,
+    first: Option<FirstReading>,
 )
     requires inputs { length sample.now.u.items ≡ plant.now.inputs }
     requires outputs { length sample.now.y.items ≡ plant.now.outputs }
     requires room { length set.old.columns ≤ 64 }
+    requires first { IsFirst plant.now (sample_of sample.now) set.old row.old plant.now.outputs first }
     ensures value { set.new ≡ correct plant.now (sample_of sample.now) set.old }
     ensures room { length set.new.columns ≤ 64 }
 {
-    for o in 0..plant.outputs() {
-        take_reading(set, row, plant, sample, o);
+    let _ = plant.states();
+    match first {
+        None => {}
+        Some(reading) => {
+            take_row(set, row, reading.right);
+            for o in reading.output + 1..plant.outputs() {
+                take_reading(set, row, plant, sample, o);
+            }
+        }
     }
 }
 
@@ -76,40 +87,56 @@ fn take_reading<const N: usize>(
     ensures value { set.new ≡ correct_reading plant.now sample.now.u.items o (reading_at (sample_of sample.now) o) set.old }
     ensures room { length set.new.columns ≤ 64 }
 {
+    let _ = plant.states();
     match sample.y[o] {
         Reading::Missing => {}
-        Reading::Value { v, slack } => take_value(set, row, plant, &sample.u, o, v, slack),
+        Reading::Value { v, slack } => {
+            let right = fill_row(set, row, plant, &sample.u, o, v, slack);
+            take_row(set, row, right);
+        }
     }
 }
 
-/// Takes the reading `v` of output `o`: its row by its gains where the set takes it, and then at most 48 columns.
-fn take_value<const N: usize>(
-    set: &mut Zono<N>,
+/// Puts the row of the reading `v` of output `o` in the place of that in `row`; gives its right side.
+pub fn fill_row<const N: usize>(
+    set: &Zono<N>,
     row: &mut Coefs,
     plant: &Plant<N>,
     u: &[i128],
     o: usize,
     v: i128,
     slack: i128,
-)
+) -> i128
     requires count { length u.now ≡ plant.now.inputs }
     requires small { AllWithinLimit input_limit u.now }
     requires output { o < plant.now.outputs }
     requires reading { unsigned_abs v ≤ range }
     requires slack_low { pos 0 ≤ℤ slack }
     requires slack_high { slack ≤ℤ pos 1 }
-    requires room { length set.old.columns ≤ 64 }
-    ensures value { set.new ≡ correct_reading plant.now u.now o (Some (record { value = v; slack = slack })) set.old }
-    ensures room { length set.new.columns ≤ 64 }
+    requires room { length set.now.columns ≤ 64 }
+    ensures coefficients { row.new ≡ (row_of plant.now u.now o (record { value = v; slack = slack }) set.now).coefficients }
+    ensures right { result ≡ (row_of plant.now u.now o (record { value = v; slack = slack }) set.now).right }
+    ensures within { unsigned_abs result ≤ 10 ^ 22 }
 {
     let _ = plant.states();
-    let right = set.fill_strip_row(
+    set.fill_strip_row(
         &plant.c_row(o),
         through(plant, u, o),
         v,
         plant.noise(o) + slack,
         row,
-    );
+    )
+}
+
+/// Takes a row of a reading by its gains where the set takes it, and leaves at most 48 columns.
+fn take_row<const N: usize>(set: &mut Zono<N>, row: &Coefs, right: i128)
+    requires states { N ≤ 8 }
+    requires columns { length row.now ≡ length set.old.columns + 1 }
+    requires right { unsigned_abs right ≤ 10 ^ 22 }
+    requires room { length set.old.columns ≤ 64 }
+    ensures value { set.new ≡ take_row_of N (record { coefficients = row.now; right = right }) set.old }
+    ensures room { length set.new.columns ≤ 64 }
+{
     let gains = gain(set.cols(), row);
     set.substitute(row, right, &gains);
     set.reduce(48);

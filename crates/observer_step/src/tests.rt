@@ -104,7 +104,7 @@ fn taken(est: &mut Est<1>, plant: &Plant<1>, sample: &Sample) -> Option<(Ends, E
         return None;
     }
     let outs = est.outs(plant, &sample.u);
-    match est.correct_by(plant, sample, &outs) {
+    match est.correct(plant, sample) {
         Outcome::Fits => Some((outs[0], est.hull(0))),
         Outcome::Excluded(_) => None,
     }

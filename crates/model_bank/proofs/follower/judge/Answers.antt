@@ -10,11 +10,11 @@ returns-clause-answer g c =
     let p = c.args.plant.now in
     let s = sample_of c.args.sample.now in
     let z = c.args.estimate.now.plain in
-    let after = c.correct_by-outcome.new.self.plain in
-    let certificate = certificate_in c.correct_by-outcome.result in
-    let due = c.correct_by-outcome.ensures.outcome in
-    let fits = c.correct_by-outcome.ensures.fits in
-    answer-judged p s z after certificate due fits c.args.index (was_widened c.args.kept) c.outs-preds.result.items c.if-fits.hulls.items c.outs-preds.ensures.value
+    let after = c.judge-preds.new.self.plain in
+    let certificate = certificate_in c.judge-preds.result.outcome in
+    let due = c.judge-preds.ensures.outcome in
+    let fits = c.judge-preds.ensures.fits in
+    answer-judged p s z after certificate due fits c.args.index (was_widened c.args.kept) c.judge-preds.result.outs.items c.if-fits.hulls.items c.judge-preds.ensures.outs
     (elim c.if-fits.branch [
       | then-fits w ↦ hulls-judged p s z after certificate due fits c.if-fits.hulls.items (sym c.fits.ensures ∙ w.if-fits.true) (ap (λ v. v.items) w.hulls-is ∙ w.hulls-hulls.ensures.value)
       | else-fits w ↦ no_hulls-judged p s z after certificate due fits c.if-fits.hulls.items (sym c.fits.ensures ∙ w.if-fits.false) (ap (λ v. v.items) w.hulls-is ∙ w.new-hulls.ensures)
@@ -22,5 +22,5 @@ returns-clause-answer g c =
 
 pub returns-clause-set : goal.returns-clause-set
 returns-clause-set g c =
-    set-judged c.args.plant.now (sample_of c.args.sample.now) c.args.estimate.now.plain c.correct_by-outcome.new.self.plain (certificate_in c.correct_by-outcome.result) c.correct_by-outcome.ensures.outcome c.correct_by-outcome.ensures.fits
-    (λ some. ap (λ e. e.plain) (c.correct_by-outcome.ensures.excluded some))
+    set-judged c.args.plant.now (sample_of c.args.sample.now) c.args.estimate.now.plain c.judge-preds.new.self.plain (certificate_in c.judge-preds.result.outcome) c.judge-preds.ensures.outcome c.judge-preds.ensures.fits
+    (λ some. ap (λ e. e.plain) (c.judge-preds.ensures.excluded some))

@@ -3,7 +3,7 @@ use Rattle.std.specs.List.{list_all}
 use Rattle.set_rules.specs.Columns.{tabulate}
 use Rattle.observer_step.specs.Predicted.{out_of}
 use Rattle.observer_step.specs.Seen.{is_printable_interval}
-use Rattle.observer_step.proofs.est.predicted.Given as goal
+use Rattle.observer_step.proofs.ahead.predicted.Given as goal
 
 abbrev pub invariant-loop-o : goal.invariant-loop-o
 invariant-loop-o g l = record {
