@@ -1,4 +1,5 @@
 pub mod Counting
+pub mod Cutting
 pub mod Compaction
 pub mod Keys
 pub mod Reduced

@@ -1,21 +1,23 @@
 -- The kept columns and the box are the reduction.
-use Rattle.std.proofs.Common.{◌≡◌, ℕ, zero, suc, ◌+◌, ◌-◌, ◌<◌, ◌≤◌, Bool, true, false, if◌then◌else◌, nat_lt, nat_le, nat_eq, ◌&&◌, List, [], ◌++◌, length, map, get_or, ℤ, pos, ◌+ℤ◌, ◌≤ℤ◌, sym, ap, ◌∙◌, arith, subst}
+use Rattle.std.proofs.Common.{◌≡◌, ℕ, zero, suc, ◌+◌, ◌-◌, ◌<◌, ◌≤◌, ◌⊎◌, ⊎_elim, Bool, true, false, if◌then◌else◌, nat_lt, nat_le, nat_eq, ◌&&◌, ◌||◌, List, [], ◌++◌, length, map, get_or, ℤ, pos, ◌+ℤ◌, ◌≤ℤ◌, sym, ap, ◌∙◌, arith, subst, add-one, unsigned_abs}
 use Rattle.std.proofs.lemmas.Int.{ints}
 use Rattle.std.proofs.lemmas.Bool.Decides.{nat_tests}
+use Rattle.std.specs.List.{count_by}
 use Rattle.set_rules.specs.Sum.{total, magnitude}
 use Rattle.set_rules.specs.Symbols.{diagonal}
-use Rattle.set_rules.specs.Columns.{at, column_entry, row_magnitude, tabulate}
-use Rattle.set_rules.specs.Reduce.{rank, places, dropped, key_at, stays, kept_columns, lost_magnitude, diagonal_columns, condense, reduce}
-use Rattle.set_rules.proofs.Sums.{total-zero, total-suc, total-more, total-same}
+use Rattle.set_rules.specs.Columns.{row_magnitude, tabulate}
+use Rattle.set_rules.specs.Reduce.{count_below, places, dropped, key_of, key_at, stays, kept_columns, lost_magnitude, diagonal_columns, condense, reduce}
+use Rattle.set_rules.proofs.Sums.{total-zero, total-suc, total-more}
 use Rattle.set_rules.proofs.ImageSets.{length-tabulate, get_or-tabulate}
 use Rattle.std.proofs.lemmas.List.{length-map}
 use Rattle.fixed_mat.proofs.Columns.{tabulate-same}
-use Rattle.set_rules.proofs.Ranks.{ranked-few, length-places}
+use Rattle.set_rules.proofs.Ranks.{count-suc, ranked-few, length-places}
 use Rattle.set_rules.specs.Zono.{Inside}
 use Rattle.set_rules.proofs.ReductionHolds.{reduction-keeps, reduction-keeps-magnitudes}
 use Rattle.girard_reduce.specs.Keeps.{KeepsInside, KeepsMagnitudes}
-use Rattle.girard_reduce.specs.Marks.{marked, ranked_below}
-use Rattle.girard_reduce.proofs.Counting.{rank-same, places-same}
+use Rattle.girard_reduce.specs.Cut.{Leaves}
+use Rattle.girard_reduce.proofs.Counting.{count_below-same}
+use Rattle.girard_reduce.proofs.Cutting.{level, counted-in-all, takes-rank}
 
 -- what a place adds to the sum of what is not kept
 pub dropped_yes : (keep : ℕ → Bool) (f : ℕ → ℤ) (t : ℕ) (x y : ℤ) → x ≡ total t (dropped keep f) → keep t ≡ true → y ≡ x → y ≡ total (t + 1) (dropped keep f)
@@ -29,6 +31,9 @@ dropped_no keep f t x y h e is =
     let one : dropped keep f t ≡ f t = ap (λ b. if b then pos 0 else f t) e in
     let more = total-more t (dropped keep f) in
     omega (arith, ints)
+
+pub magnitude_on : (x y : ℕ) (z : ℤ) → y ≡ x + unsigned_abs z → pos y ≡ pos x +ℤ magnitude z
+magnitude_on x y z h = omega (arith, ints)
 
 -- it lies between 0 and the whole sum
 pub dropped-between : (keep : ℕ → Bool) (f : ℕ → ℤ) (k : ℕ) → (pos 0 ≤ℤ total k (dropped keep (λ t. magnitude (f t)))) × (total k (dropped keep (λ t. magnitude (f t))) ≤ℤ total k (λ t. magnitude (f t)))
@@ -51,45 +56,78 @@ dropped-between keep f (suc k) =
 pub same_column : (n j : ℕ) (r s : ℕ → ℤ) → r j ≡ s j → tabulate n (λ i. diagonal r i j) ≡ tabulate n (λ i. diagonal s i j)
 same_column n j r s e = ap (λ (y : ℤ). tabulate n (λ i. if nat_eq j i then y else pos 0)) e
 
-module _ (columns : List (List ℤ)) (room : ℕ) (keys : List ℤ) (marks : List Bool) (few : length columns ≤ 128)
-    (keys-are : keys ≡ tabulate (length columns) (key_at columns)) (marks-are : marks ≡ ranked_below keys room) where
-  -- the marked columns are those that stay
-  pub marked-stays : (t : ℕ) → t < length columns → marked marks t ≡ stays columns room t
-  marked-stays t h =
-      let long : length keys ≡ length columns = ap length keys-are ∙ length-tabulate (length columns) (key_at columns) in
-      let in_keys : nat_lt t (length keys) ≡ true = grind (arith, nat_tests) in
-      let same : (s : ℕ) → s < length keys → at keys s ≡ key_at columns s = λ s l. ap (λ xs. at xs s) keys-are ∙ get_or-tabulate (length columns) (key_at columns) s (pos 0) (omega arith) in
-      let below : t < length keys = omega arith in
-      let ranks : rank (length keys) (at keys) t ≡ rank (length columns) (key_at columns) t = rank-same (length keys) (at keys) (key_at columns) t same below ∙ ap (λ n. rank n (key_at columns) t) long in
-      ap (λ xs. marked xs t) marks-are ∙ get_or-tabulate 128 (λ t. nat_lt t (length keys) && nat_lt (rank (length keys) (at keys) t) room) t false (omega arith)
-      ∙ (λ i. in_keys i && nat_lt (ranks i) room)
+-- a sum of magnitudes grows with its terms
+total-grows : (f : ℕ → ℤ) (t k : ℕ) → t ≤ k → total t (λ s. magnitude (f s)) ≤ℤ total k (λ s. magnitude (f s))
+total-grows f t zero h = let same = ap (λ n. total n (λ s. magnitude (f s))) (none t h) in omega (arith, ints)
+  where
+    none : (t : ℕ) → t ≤ 0 → t ≡ 0
+    none t h = omega arith
+total-grows f t (suc k) h = ⊎_elim
+    (λ (l : t ≤ k).
+    let before = total-grows f t k l in
+    let last = total-suc k (λ s. magnitude (f s)) in
+    omega (arith, ints))
+    (λ (is : t ≡ suc k). let same = ap (λ n. total n (λ s. magnitude (f s))) is in omega (arith, ints))
+    (side t k h)
+  where
+    side : (t k : ℕ) → t ≤ suc k → (t ≤ k) ⊎ (t ≡ suc k)
+    side t k h = grind arith
 
-  pub kept-places : places (marked marks) (length columns) ≡ places (stays columns room) (length columns)
-  kept-places = places-same (length columns) (marked marks) (stays columns room) marked-stays
+-- so what is dropped of the first terms is within the sum of all
+pub dropped-within : (keep : ℕ → Bool) (f : ℕ → ℤ) (t k n : ℕ) (x : ℕ) → t ≤ k → pos x ≡ total t (dropped keep (λ s. magnitude (f s))) → total k (λ s. magnitude (f s)) ≤ℤ pos n → x ≤ n
+dropped-within keep f t k n x h is most =
+    let between = dropped-between keep f t in
+    let grows = total-grows f t k h in
+    omega (arith, ints, between.1)
 
-  -- so the radii of the box are what was lost
-  pub lost-radius : (i : ℕ) → total (length columns) (dropped (marked marks) (λ t. magnitude (column_entry columns i t))) ≡ lost_magnitude columns room i
-  lost-radius i = total-same (length columns) (dropped (marked marks) (λ t. magnitude (column_entry columns i t))) (dropped (stays columns room) (λ t. magnitude (column_entry columns i t)))
-      (λ t l. ap (λ b. if b then pos 0 else magnitude (column_entry columns i t)) (marked-stays t l))
+module _ (columns : List (List ℤ)) (room : ℕ) where
+  -- the key of column t
+  abbrev pub key : ℕ → ℕ
+  key t = key_of (get_or columns t [])
+
+  module _ (cut_keys keys : List ℕ) (least ties t : ℕ) (cut-keys-are : cut_keys ≡ tabulate (length columns) key) (keys-are : keys ≡ tabulate (length columns) key)
+      (leaves : Leaves cut_keys room least ties) (below : t < length columns) (limit left : ℕ) (limit-is : limit ≡ least) (left-is : left ≡ ties - count_below t (level key least)) where
+    here : get_or keys t 0 ≡ key t
+    here = ap (λ ks. get_or ks t 0) keys-are ∙ get_or-tabulate (length columns) key t 0 below
+
+    -- what a cut of the keys takes is what stays
+    pub taken-stays : (nat_lt limit (get_or keys t 0) || nat_eq (get_or keys t 0) limit && nat_lt 0 left) ≡ stays columns room t
+    taken-stays =
+        let counted : (p : ℕ → Bool) → count_by p cut_keys ≡ count_below (length columns) (λ s. p (key s)) = λ p. ap (count_by p) cut-keys-are ∙ counted-in-all p (tabulate (length columns) key) ∙ ap (λ n. count_below n (λ s. p (get_or (tabulate (length columns) key) s 0))) (length-tabulate (length columns) key)
+        ∙ count_below-same (length columns) (λ s. p (get_or (tabulate (length columns) key) s 0)) (λ s. p (key s)) (λ s l. ap p (get_or-tabulate (length columns) key s 0 l)) in
+        let all = leaves.all in
+        let enough = leaves.enough in
+        let above_all = counted (nat_lt least) in
+        let reached = counted (nat_le least) in
+        (λ i. nat_lt (limit-is i) (here i) || nat_eq (here i) (limit-is i) && nat_lt 0 (left-is i))
+        ∙ takes-rank key least (length columns) room ties t (omega arith) (omega arith) below
+
+    -- and it counts its ties down
+    pub ties-next : (next : ℕ) → next ≡ left - (if nat_eq (get_or keys t 0) limit then 1 else 0) → next ≡ ties - count_below (t + 1) (level key least)
+    ties-next next e =
+        let is = e ∙ (λ i. left - (if nat_eq (here i) (limit-is i) then 1 else 0)) in
+        let more = ap (λ n. count_below n (level key least)) (add-one t) ∙ count-suc t (level key least) in
+        omega arith
 
   -- there is room for as many columns as stay
-  pub kept-few : length (map (λ t. get_or columns t []) (places (marked marks) (length columns))) ≤ room
+  pub kept-few : length (kept_columns columns room) ≤ room
   kept-few =
-      let counted = length-map (places (marked marks) (length columns)) (λ t. get_or columns t []) in
-      let same = ap length kept-places ∙ length-places (stays columns room) (length columns) in
+      let counted = length-map (places (stays columns room) (length columns)) (λ t. get_or columns t []) in
+      let same = length-places (stays columns room) (length columns) in
       let most = ranked-few (length columns) (key_at columns) room in
       omega arith
 
-  pub reduced : (n most : ℕ) (radii : List ℤ) (new : List (List ℤ)) → room ≡ most - n → most < length columns
-      → radii ≡ tabulate n (λ i. total (length columns) (dropped (marked marks) (λ t. magnitude (column_entry columns i t))))
-      → new ≡ map (λ t. get_or columns t []) (places (marked marks) (length columns)) ++ diagonal_columns n (λ i. get_or radii i (pos 0))
+  -- the columns that stay and a box of what was lost are the reduction
+  pub reduced : (n most : ℕ) (lost : List ℕ) (new : List (List ℤ)) → room ≡ most - n → most < length columns
+      → ((i : ℕ) → i < n → pos (get_or lost i 0) ≡ lost_magnitude columns room i)
+      → new ≡ kept_columns columns room ++ diagonal_columns n (λ i. pos (get_or lost i 0))
       → new ≡ reduce n most columns
   unfolding reduce condense
-  reduced n most radii new is more made h =
+  reduced n most lost new is more made h =
       let test : nat_le (length columns) most ≡ false = grind (arith, nat_tests) in
-      let box : diagonal_columns n (λ i. get_or radii i (pos 0)) ≡ diagonal_columns n (lost_magnitude columns room) = tabulate-same n (λ j. tabulate n (λ i. diagonal (λ k. get_or radii k (pos 0)) i j)) (λ j. tabulate n (λ i. diagonal (lost_magnitude columns room) i j)) (λ j l. same_column n j (λ i. get_or radii i (pos 0)) (lost_magnitude columns room)
-      (ap (λ xs. get_or xs j (pos 0)) made ∙ get_or-tabulate n (λ i. total (length columns) (dropped (marked marks) (λ t. magnitude (column_entry columns i t)))) j (pos 0) l ∙ lost-radius j)) in
-      h ∙ (λ i. map (λ t. get_or columns t []) (kept-places i) ++ box i)
+      let box : diagonal_columns n (λ i. pos (get_or lost i 0)) ≡ diagonal_columns n (lost_magnitude columns room) = tabulate-same n (λ j. tabulate n (λ i. diagonal (λ k. pos (get_or lost k 0)) i j)) (λ j. tabulate n (λ i. diagonal (lost_magnitude columns room) i j))
+      (λ j l. same_column n j (λ i. pos (get_or lost i 0)) (lost_magnitude columns room) (made j l)) in
+      h ∙ ap (λ b. kept_columns columns room ++ b) box
       ∙ ap (λ r. kept_columns columns r ++ diagonal_columns n (lost_magnitude columns r)) is
       ∙ ap (λ b. if b then columns else kept_columns columns (most - n) ++ diagonal_columns n (lost_magnitude columns (most - n))) (sym test)
 

@@ -1,8 +1,7 @@
-use Rattle.std.proofs.Common.{◌-◌, ◌≤◌, ◌++◌, length, get_or, pos, unsigned_abs, arith, ap, ◌∙◌, refl}
-use Rattle.std.proofs.lemmas.List.FromFn.{length-map-range_with_len}
-use Rattle.std.proofs.lemmas.List.Elements.{All-same}
-use Rattle.set_rules.specs.Reduce.{diagonal_columns}
-use Rattle.girard_reduce.proofs.Reduced.{reduced, reduced-same, reduced-magnitudes, reduced-inside, kept-few}
+use Rattle.std.proofs.Common.{◌≡◌, ◌-◌, ◌<◌, ◌≤◌, ◌++◌, length, get_or, pos, arith, ap, ◌∙◌, refl}
+use Rattle.set_rules.specs.Columns.{column_entry}
+use Rattle.set_rules.specs.Reduce.{reduce, stays, diagonal_columns}
+use Rattle.girard_reduce.proofs.Reduced.{reduced, reduced-same, reduced-magnitudes, reduced-inside, kept-few, dropped-within}
 use Rattle.girard_reduce.proofs.reduction.reduce_in_place.Goals as goal
 
 pub returns-then-len-max-clause-value : goal.returns-then-len-max-clause-value
@@ -10,18 +9,22 @@ returns-then-len-max-clause-value g c = reduced-same g.row.N c.args.max c.args.c
 
 pub push_box-requires : goal.push_box-requires
 push_box-requires g c =
-    let room = kept-few c.args.cols.now (c.args.max - g.row.N) c.deref.result.now c.kept-marks.result (let n = c.len.ensures.value in let few = c.len.ensures.few in omega arith) (c.deref.ensures.0 ∙ c.keys.ensures) c.kept-marks.ensures in
-    let kept = ap length c.keep_marked.ensures in
-    let long = ap length c.deref-2.ensures.0 ∙ ap length c.unmarked_magnitudes-radii.ensures.value ∙ length-map-range_with_len _ 0 g.row.N in
+    let room = kept-few c.args.cols.now (c.args.max - g.row.N) in
+    let kept = ap length c.keep_greatest-lost.ensures.kept in
     let low = c.requires.low in
     let high = c.requires.high in
-    (omega arith, (omega arith, (long, All-same (λ z. unsigned_abs z ≤ 1_000_000_000_000_000_000) c.deref-2.result.now c.unmarked_magnitudes-radii.result.items c.deref-2.ensures.0 c.unmarked_magnitudes-radii.ensures.within)))
+    let small = c.len.ensures.height_small in
+    (omega arith, (omega arith, (omega arith, λ i h.
+    dropped-within (stays c.args.cols.now (c.args.max - g.row.N)) (column_entry c.args.cols.now i) (length c.args.cols.now) (length c.args.cols.now) 1_000_000_000_000_000_000 (get_or c.keep_greatest-lost.result i 0) (omega arith) (c.keep_greatest-lost.ensures.lost i h) (c.requires.in_range i h))))
 
 pub returns-clause-value : goal.returns-clause-value
-returns-clause-value g c = reduced c.args.cols.now (c.args.max - g.row.N) c.deref.result.now c.kept-marks.result (let n = c.len.ensures.value in let few = c.len.ensures.few in omega arith) (c.deref.ensures.0 ∙ c.keys.ensures) c.kept-marks.ensures g.row.N c.args.max c.deref-2.result.now c.push_box.new.cols refl (let n = c.len.ensures.value in let more = c.if-len-max.false in omega arith) (c.deref-2.ensures.0 ∙ c.unmarked_magnitudes-radii.ensures.value) (c.push_box.ensures ∙ ap (λ xs. xs ++ diagonal_columns g.row.N (λ i. get_or c.deref-2.result.now i (pos 0))) c.keep_marked.ensures)
+returns-clause-value g c =
+    let count = c.len.ensures.value in
+    let more = c.if-len-max.false in
+    reduced c.args.cols.now (c.args.max - g.row.N) g.row.N c.args.max c.keep_greatest-lost.result c.push_box.new.cols refl (omega arith) c.keep_greatest-lost.ensures.lost (c.push_box.ensures ∙ ap (λ xs. xs ++ diagonal_columns g.row.N (λ i. pos (get_or c.keep_greatest-lost.result i 0))) c.keep_greatest-lost.ensures.kept)
 
 pub returns-clause-magnitudes : goal.returns-clause-magnitudes
-returns-clause-magnitudes g c = reduced-magnitudes g.row.N c.args.max c.args.cols.now c.push_box.new.cols (reduced c.args.cols.now (c.args.max - g.row.N) c.deref.result.now c.kept-marks.result (let n = c.len.ensures.value in let few = c.len.ensures.few in omega arith) (c.deref.ensures.0 ∙ c.keys.ensures) c.kept-marks.ensures g.row.N c.args.max c.deref-2.result.now c.push_box.new.cols refl (let n = c.len.ensures.value in let more = c.if-len-max.false in omega arith) (c.deref-2.ensures.0 ∙ c.unmarked_magnitudes-radii.ensures.value) (c.push_box.ensures ∙ ap (λ xs. xs ++ diagonal_columns g.row.N (λ i. get_or c.deref-2.result.now i (pos 0))) c.keep_marked.ensures))
+returns-clause-magnitudes g c = reduced-magnitudes g.row.N c.args.max c.args.cols.now c.push_box.new.cols (returns-clause-value g c)
 
 pub returns-clause-inside : goal.returns-clause-inside
-returns-clause-inside g c = reduced-inside g.row.N c.args.max c.args.cols.now c.push_box.new.cols (reduced c.args.cols.now (c.args.max - g.row.N) c.deref.result.now c.kept-marks.result (let n = c.len.ensures.value in let few = c.len.ensures.few in omega arith) (c.deref.ensures.0 ∙ c.keys.ensures) c.kept-marks.ensures g.row.N c.args.max c.deref-2.result.now c.push_box.new.cols refl (let n = c.len.ensures.value in let more = c.if-len-max.false in omega arith) (c.deref-2.ensures.0 ∙ c.unmarked_magnitudes-radii.ensures.value) (c.push_box.ensures ∙ ap (λ xs. xs ++ diagonal_columns g.row.N (λ i. get_or c.deref-2.result.now i (pos 0))) c.keep_marked.ensures))
+returns-clause-inside g c = reduced-inside g.row.N c.args.max c.args.cols.now c.push_box.new.cols (returns-clause-value g c)
