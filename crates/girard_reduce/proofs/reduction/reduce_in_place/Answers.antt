@@ -1,6 +1,6 @@
-use Rattle.std.proofs.Common.{◌≡◌, ◌-◌, ◌<◌, ◌≤◌, ◌++◌, length, get_or, pos, arith, ap, ◌∙◌, refl}
+use Rattle.std.proofs.Common.{◌-◌, ◌++◌, length, get_or, pos, arith, ap, ◌∙◌, refl}
 use Rattle.set_rules.specs.Columns.{column_entry}
-use Rattle.set_rules.specs.Reduce.{reduce, stays, diagonal_columns}
+use Rattle.set_rules.specs.Reduce.{stays, diagonal_columns}
 use Rattle.girard_reduce.proofs.Reduced.{reduced, reduced-same, reduced-magnitudes, reduced-inside, kept-few, dropped-within}
 use Rattle.girard_reduce.proofs.reduction.reduce_in_place.Goals as goal
 
@@ -13,9 +13,17 @@ push_box-requires g c =
     let kept = ap length c.keep_greatest-lost.ensures.kept in
     let low = c.requires.low in
     let high = c.requires.high in
-    let small = c.len.ensures.height_small in
-    (omega arith, (omega arith, (omega arith, λ i h.
-    dropped-within (stays c.args.cols.now (c.args.max - g.row.N)) (column_entry c.args.cols.now i) (length c.args.cols.now) (length c.args.cols.now) 1_000_000_000_000_000_000 (get_or c.keep_greatest-lost.result i 0) (omega arith) (c.keep_greatest-lost.ensures.lost i h) (c.requires.in_range i h))))
+    let small = c.len.ensures.height_small in (
+      omega arith,
+      (
+        omega arith,
+        (
+          omega arith,
+          λ i h.
+              dropped-within (stays c.args.cols.now (c.args.max - g.row.N)) (column_entry c.args.cols.now i) (length c.args.cols.now) (length c.args.cols.now) 1_000_000_000_000_000_000 (get_or c.keep_greatest-lost.result i 0) (omega arith) (c.keep_greatest-lost.ensures.lost i h) (c.requires.in_range i h),
+        ),
+      ),
+    )
 
 pub returns-clause-value : goal.returns-clause-value
 returns-clause-value g c =
