@@ -1,7 +1,8 @@
 //! The reduction of a set's columns by rank.
 
-ghost use Rattle.std.specs.Prelude.{◌≡◌, ℕ, ◌+◌, ◌<◌, ◌≤◌, length, pos, ◌≤ℤ◌, unsigned_abs, slice_index_or, [], ◌++◌};
+ghost use Rattle.std.specs.Prelude.{◌≡◌, ℕ, ◌+◌, ◌<◌, ◌≤◌, length, pos, ◌≤ℤ◌, unsigned_abs, slice_index_or, slice_set, take, [], ◌++◌};
 ghost use Rattle.std.specs.List.{All};
+ghost use Rattle.set_rules.specs.Symbols.{diagonal};
 ghost use Rattle.set_rules.specs.Columns.{at, row_magnitude, tabulate};
 ghost use Rattle.set_rules.specs.Reduce.{reduce as reduce_of, key_of, kept_columns, lost_magnitude, diagonal_columns};
 ghost use Rattle.girard_reduce.specs.Keeps.{KeepsInside, KeepsMagnitudes};
@@ -36,16 +37,18 @@ pub fn reduce_in_place<const N: usize>(cols: &mut Cols<N>, max: usize)
     if cols.len() <= max {
         return;
     }
-    let lost = keep_greatest(cols, max - N);
-    push_box(cols, &lost);
+    let (count, lost) = keep_greatest(cols, max - N);
+    end_with_box(cols, count, &lost);
 }
 
-/// Leaves the columns with the `room` greatest keys alone, in their order. Gives for each row the sum of the magnitudes in the others.
-fn keep_greatest<const N: usize>(cols: &mut Cols<N>, room: usize) -> [u64; 8]
+/// Moves the columns with the `room` greatest keys to the front, in their order. Gives how many they are, and for each row the sum of the magnitudes in the others.
+fn keep_greatest<const N: usize>(cols: &mut Cols<N>, room: usize) -> (usize, [u64; 8])
     requires fits { room ≤ length cols.old }
     requires in_range { (i : ℕ) → i < N → row_magnitude cols.old i ≤ℤ pos 1_000_000_000_000_000_000 }
-    ensures kept { cols.new ≡ kept_columns cols.old room }
-    ensures lost { (i : ℕ) → i < N → pos (slice_index_or result i 0) ≡ lost_magnitude cols.old room i }
+    ensures kept { take result.0 cols.new ≡ kept_columns cols.old room }
+    ensures count { result.0 ≡ length (kept_columns cols.old room) }
+    ensures size { length cols.new ≡ length cols.old }
+    ensures lost { (i : ℕ) → i < N → pos (slice_index_or result.1 i 0) ≡ lost_magnitude cols.old room i }
 {
     let keys = keys(cols);
     let mut cut = Cut::of(&keys, room);
@@ -59,8 +62,7 @@ fn keep_greatest<const N: usize>(cols: &mut Cols<N>, room: usize) -> [u64; 8]
             add_magnitudes(&mut lost, cols.column(t));
         }
     }
-    cols.truncate(count);
-    lost
+    (count, lost)
 }
 
 /// The key of each column: the sum of its magnitudes less the greatest of them.
@@ -102,14 +104,29 @@ fn add_magnitudes(sums: &mut [u64; 8], column: &[i128])
     }
 }
 
-/// Appends the columns of a box with these radii.
-fn push_box<const N: usize>(cols: &mut Cols<N>, radii: &[u64; 8])
-    requires room { length cols.old + N ≤ 128 }
+/// Puts the columns of a box with these radii in the places from `start` on, and takes away those after them.
+fn end_with_box<const N: usize>(cols: &mut Cols<N>, start: usize, radii: &[u64; 8])
+    requires room { start + N ≤ length cols.old }
+    requires few { start + N ≤ 128 }
     requires height { N ≤ 8 }
     requires within { (i : ℕ) → i < N → slice_index_or radii.now i 0 ≤ 1_000_000_000_000_000_000 }
-    ensures { cols.new ≡ cols.old ++ diagonal_columns N (λ i. pos (slice_index_or radii.now i 0)) }
+    ensures { cols.new ≡ take start cols.old ++ diagonal_columns N (λ i. pos (slice_index_or radii.now i 0)) }
 {
     for i in 0..N {
-        cols.push_diagonal(i, i128::from(radii[i]));
+        put_diagonal(cols, start + i, i, radii[i]);
     }
+    cols.truncate(start + N);
+}
+
+/// Puts a column that holds `v` in row `i` and zeros elsewhere in the place of column `t`.
+fn put_diagonal<const N: usize>(cols: &mut Cols<N>, t: usize, i: usize, v: u64)
+    requires column { t < length cols.old }
+    requires row { i < N }
+    requires height { N ≤ 8 }
+    requires within { v ≤ 1_000_000_000_000_000_000 }
+    ensures { cols.new ≡ slice_set cols.old t (tabulate N (λ j. diagonal (λ _. pos v) j i)) }
+{
+    let mut column = [0; 8];
+    column[i] = i128::from(v);
+    cols.replace(t, &column[..N]);
 }
