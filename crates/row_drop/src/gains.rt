@@ -1,12 +1,13 @@
 //! The gain of each state.
 
 ghost use Rattle.std.specs.Prelude.{◌≡◌, ◌+◌, ◌*◌, ◌<◌, ◌≤◌, ◌^◌, ◌/◌, ◌⊎◌, length, map, pos, ◌*ℤ◌, int_div, unsigned_abs};
-ghost use Rattle.std.specs.List.{All};
+ghost use Rattle.std.specs.List.{All, sum_by};
 ghost use Rattle.set_rules.specs.Sum.{total};
 ghost use Rattle.set_rules.specs.Columns.{at, column_entry, tabulate};
 ghost use Rattle.set_rules.specs.Gain.{gain as gain_list, shrunk_value, greatest_entry, gain_of, clipped_gain};
 
-use crate::shrink::{shift_of, shrunk, shrunk_row};
+use crate::products::{plain_product, plain_square, product_of, square_of};
+use crate::shrink::{bound_of, shift_of, shrunk_row};
 use arrayvec::ArrayVec;
 use fixed_mat::{Coef, Coefs, Cols, Mat};
 
@@ -15,12 +16,59 @@ pub fn gain<const N: usize>(cols: &Cols<N>, a: &Coefs) -> Mat<N, 1, Coef>
     requires { (length a.now ≡ length cols.now) ⊎ (length a.now ≡ length cols.now + 1) }
     ensures { result ≡ gain_list N cols.now a.now }
 {
-    let halvings = shift_of(cols, a);
-    let row = shrunk_row(a, halvings);
-    let gains = ratios(cols, &row, halvings);
+    let gains = gains_of(cols, a);
     let mut gain = Mat::zero();
     gain.replace(&gains);
     gain
+}
+
+/// The gains one after another; where bounds show that no number is `2 ^ 40` or above, nothing is shrunk.
+fn gains_of<const N: usize>(cols: &Cols<N>, a: &Coefs) -> ArrayVec<i128, 8>
+    requires { (length a.now ≡ length cols.now) ⊎ (length a.now ≡ length cols.now + 1) }
+    ensures value { result.items ≡ gain_list N cols.now a.now }
+    ensures within { All (λ z. unsigned_abs z ≤ 1_000_000_000_000) result.items }
+    ensures low { 1 ≤ N }
+    ensures high { N ≤ 8 }
+{
+    let bound = bound_of(cols);
+    if bound < 1_099_511_627_776 && a.sum() < 1_099_511_627_776 {
+        plain_ratios(cols, a, bound)
+    } else {
+        shrunk_ratios(cols, a)
+    }
+}
+
+/// The gain of each state where nothing has to be shrunk.
+fn plain_ratios<const N: usize>(cols: &Cols<N>, a: &Coefs, bound: u64) -> ArrayVec<i128, 8>
+    requires long { (length a.now ≡ length cols.now) ⊎ (length a.now ≡ length cols.now + 1) }
+    requires bound { greatest_entry cols.now ≤ bound }
+    requires below { bound < 2 ^ 40 }
+    requires row { sum_by unsigned_abs a.now < 2 ^ 40 }
+    ensures value { result.items ≡ gain_list N cols.now a.now }
+    ensures within { All (λ z. unsigned_abs z ≤ 1_000_000_000_000) result.items }
+    ensures low { 1 ≤ N }
+    ensures high { N ≤ 8 }
+{
+    let _ = cols.len();
+    let square = plain_square(a);
+    let mut gains: ArrayVec<i128, 8> = ArrayVec::new();
+    for i in 0..N {
+        gains.push(ratio(plain_product(cols, i, a, bound), square));
+    }
+    gains
+}
+
+/// The gain of each state of shrunk columns and a shrunk row.
+fn shrunk_ratios<const N: usize>(cols: &Cols<N>, a: &Coefs) -> ArrayVec<i128, 8>
+    requires { (length a.now ≡ length cols.now) ⊎ (length a.now ≡ length cols.now + 1) }
+    ensures value { result.items ≡ gain_list N cols.now a.now }
+    ensures within { All (λ z. unsigned_abs z ≤ 1_000_000_000_000) result.items }
+    ensures low { 1 ≤ N }
+    ensures high { N ≤ 8 }
+{
+    let halvings = shift_of(cols, a);
+    let row = shrunk_row(a, halvings);
+    ratios(cols, &row, halvings)
 }
 
 /// The gain of each state at this shift.
@@ -42,48 +90,6 @@ fn ratios<const N: usize>(cols: &Cols<N>, row: &[i64], halvings: u32) -> ArrayVe
         gains.push(ratio(product_of(cols, i, row, halvings), square));
     }
     gains
-}
-
-/// The shrunk row times itself.
-fn square_of(row: &[i64]) -> i128
-    requires short { length row.now ≤ 128 }
-    requires small { All (λ x. unsigned_abs x < 2 ^ 40) row.now }
-    ensures value { result ≡ total (length row.now) (λ t. at row.now t *ℤ at row.now t) }
-    ensures within { unsigned_abs result ≤ 128 * 2 ^ 80 }
-{
-    let mut sum = 0;
-    for t in 0..row.len() {
-        sum += times(row[t], row[t]);
-    }
-    sum
-}
-
-/// The shrunk row times state `i` of the columns.
-fn product_of<const N: usize>(cols: &Cols<N>, i: usize, row: &[i64], halvings: u32) -> i128
-    requires state { i < N }
-    requires shift { halvings ≤ 88 }
-    requires below { greatest_entry cols.now / 2 ^ halvings < 2 ^ 40 }
-    requires reaches { length cols.now ≤ length row.now }
-    requires short { length row.now ≤ 128 }
-    requires small { All (λ x. unsigned_abs x < 2 ^ 40) row.now }
-    ensures value { result ≡ total (length cols.now) (λ t. shrunk_value halvings (column_entry cols.now i t) *ℤ at row.now t) }
-    ensures within { unsigned_abs result ≤ 128 * 2 ^ 80 }
-{
-    let mut sum = 0;
-    for t in 0..cols.len() {
-        sum += times(shrunk(cols.at(i, t), halvings), row[t]);
-    }
-    sum
-}
-
-/// `x` times `y`.
-fn times(x: i64, y: i64) -> i128
-    requires left { unsigned_abs x < 2 ^ 40 }
-    requires right { unsigned_abs y < 2 ^ 40 }
-    ensures value { result ≡ x *ℤ y }
-    ensures within { unsigned_abs result ≤ 2 ^ 80 }
-{
-    i128::from(x) * i128::from(y)
 }
 
 /// A unit times `product / square`, rounded towards zero and clipped to `COEF`; 0 where the square is 0.

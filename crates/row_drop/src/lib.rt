@@ -2,6 +2,7 @@
 #![tactic(auto)]
 
 mod gains;
+mod products;
 mod shrink;
 
 pub use gains::gain;

@@ -8,6 +8,29 @@ ghost use Rattle.set_rules.specs.Gain.{shift_below, shrunk_value, greatest_entry
 use arrayvec::ArrayVec;
 use fixed_mat::{Coefs, Cols};
 
+/// What no magnitude in the columns is above; at most twice the greatest of them.
+pub fn bound_of<const N: usize>(cols: &Cols<N>) -> u64
+    ensures { greatest_entry cols.now ≤ result }
+{
+    let mut bound = 0;
+    for t in 0..cols.len() {
+        bound |= bound_in(cols.column(t));
+    }
+    bound
+}
+
+/// What no magnitude in a column is above, where its entries fit 64 bits.
+fn bound_in(column: &[i128]) -> u64
+    requires { All (λ z. unsigned_abs z ≤ 1_000_000_000_000_000_000) column.now }
+    ensures { greatest column.now ≤ result }
+{
+    let mut bound = 0;
+    for entry in column {
+        bound |= (*entry as i64).unsigned_abs();
+    }
+    bound
+}
+
 /// The least number of halvings that brings every magnitude in the columns and the row below `2 ^ 40`.
 pub fn shift_of<const N: usize>(cols: &Cols<N>, a: &Coefs) -> u32
     ensures value { result ≡ gain_shift cols.now a.now }

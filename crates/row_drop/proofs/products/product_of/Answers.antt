@@ -7,7 +7,7 @@ use Rattle.set_rules.proofs.Sums.{total-zero}
 use Rattle.set_rules.proofs.Greatest.{greatest_entry-at}
 use Rattle.fixed_mat.proofs.Bits.{back, small_fits, sum_on, next_sum}
 use Rattle.row_drop.proofs.Shrinking.{shrinks}
-use Rattle.row_drop.proofs.gains.product_of.Goals as goal
+use Rattle.row_drop.proofs.products.product_of.Goals as goal
 
 pub loop-t-init : goal.loop-t-init
 loop-t-init g c = record { value = sym (total-zero _); within = omega arith }

@@ -4,7 +4,7 @@ use mir.Syntax.{w64, w128}
 use Rattle.set_rules.specs.Columns.{at}
 use Rattle.set_rules.proofs.Sums.{total-zero}
 use Rattle.fixed_mat.proofs.Bits.{sum_on, next_sum}
-use Rattle.row_drop.proofs.gains.square_of.Goals as goal
+use Rattle.row_drop.proofs.products.square_of.Goals as goal
 
 pub loop-t-init : goal.loop-t-init
 loop-t-init c = record { value = sym (total-zero _); within = omega arith }

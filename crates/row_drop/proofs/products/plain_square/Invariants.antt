@@ -1,0 +1,10 @@
+use Rattle.std.proofs.Common.{◌≡◌, ◌≤◌, ◌*◌, ◌*ℤ◌, ◌^◌, unsigned_abs}
+use Rattle.set_rules.specs.Sum.{total}
+use Rattle.set_rules.specs.Columns.{at}
+use Rattle.row_drop.proofs.products.plain_square.Given as goal
+
+abbrev pub invariant-loop-t : goal.invariant-loop-t
+invariant-loop-t l = record {
+  value : l.sum ≡ total l.t (λ t. at l.a t *ℤ at l.a t);
+  within : unsigned_abs l.sum ≤ l.t * 2 ^ 80;
+}

@@ -1,0 +1,114 @@
+//! A row times itself and times the states of columns.
+
+ghost use Rattle.std.specs.Prelude.{IsTrue, ◌≡◌, ◌*◌, ◌<◌, ◌≤◌, ◌^◌, ◌/◌, length, ◌*ℤ◌, unsigned_abs};
+ghost use Rattle.std.specs.List.{All, sum_by};
+ghost use Rattle.set_rules.specs.Sum.{total};
+ghost use Rattle.set_rules.specs.Columns.{at, column_entry};
+ghost use Rattle.set_rules.specs.Gain.{shrunk_value, greatest_entry};
+
+use crate::shrink::shrunk;
+use fixed_mat::{Coefs, Cols};
+
+/// The row times itself.
+pub fn plain_square(a: &Coefs) -> i128
+    requires { sum_by unsigned_abs a.now < 2 ^ 40 }
+    ensures value { result ≡ total (length a.now) (λ t. at a.now t *ℤ at a.now t) }
+    ensures within { unsigned_abs result ≤ 128 * 2 ^ 80 }
+{
+    let mut sum = 0;
+    for t in 0..a.len() {
+        let v = a.at(t) as i64;
+        sum += times(v, v);
+    }
+    sum
+}
+
+/// The row times state `i` of the columns, no entry of which is above `bound`.
+pub fn plain_product<const N: usize>(cols: &Cols<N>, i: usize, a: &Coefs, bound: u64) -> i128
+    requires state { i < N }
+    requires reaches { length cols.now ≤ length a.now }
+    requires bound { greatest_entry cols.now ≤ bound }
+    requires below { bound < 2 ^ 40 }
+    requires row { sum_by unsigned_abs a.now < 2 ^ 40 }
+    ensures value { result ≡ total (length cols.now) (λ t. column_entry cols.now i t *ℤ at a.now t) }
+    ensures within { unsigned_abs result ≤ 128 * 2 ^ 80 }
+{
+    if u128::from(bound) * a.sum() <= 9_000_000_000_000_000_000 {
+        i128::from(narrow_product(cols, i, a))
+    } else {
+        wide_product(cols, i, a)
+    }
+}
+
+/// The row times state `i` of the columns, in 64 bits.
+fn narrow_product<const N: usize>(cols: &Cols<N>, i: usize, a: &Coefs) -> i64
+    requires state { i < N }
+    requires reaches { length cols.now ≤ length a.now }
+    requires numbers { sum_by unsigned_abs a.now < 2 ^ 40 }
+    requires products { greatest_entry cols.now * sum_by unsigned_abs a.now ≤ 9_000_000_000_000_000_000 }
+    ensures { result ≡ total (length cols.now) (λ t. column_entry cols.now i t *ℤ at a.now t) }
+{
+    let mut sum = 0;
+    for t in 0..cols.len() {
+        sum += cols.at(i, t) as i64 * a.at(t) as i64;
+    }
+    sum
+}
+
+/// The row times state `i` of the columns, in 128 bits.
+fn wide_product<const N: usize>(cols: &Cols<N>, i: usize, a: &Coefs) -> i128
+    requires state { i < N }
+    requires reaches { length cols.now ≤ length a.now }
+    requires entries { greatest_entry cols.now < 2 ^ 40 }
+    requires numbers { sum_by unsigned_abs a.now < 2 ^ 40 }
+    ensures value { result ≡ total (length cols.now) (λ t. column_entry cols.now i t *ℤ at a.now t) }
+    ensures within { unsigned_abs result ≤ 128 * 2 ^ 80 }
+{
+    let mut sum = 0;
+    for t in 0..cols.len() {
+        sum += times(cols.at(i, t) as i64, a.at(t) as i64);
+    }
+    sum
+}
+
+/// The shrunk row times itself.
+pub fn square_of(row: &[i64]) -> i128
+    requires short { length row.now ≤ 128 }
+    requires small { All (λ x. unsigned_abs x < 2 ^ 40) row.now }
+    ensures value { result ≡ total (length row.now) (λ t. at row.now t *ℤ at row.now t) }
+    ensures within { unsigned_abs result ≤ 128 * 2 ^ 80 }
+{
+    let mut sum = 0;
+    for t in 0..row.len() {
+        sum += times(row[t], row[t]);
+    }
+    sum
+}
+
+/// The shrunk row times state `i` of the columns.
+pub fn product_of<const N: usize>(cols: &Cols<N>, i: usize, row: &[i64], halvings: u32) -> i128
+    requires state { i < N }
+    requires shift { halvings ≤ 88 }
+    requires below { greatest_entry cols.now / 2 ^ halvings < 2 ^ 40 }
+    requires reaches { length cols.now ≤ length row.now }
+    requires short { length row.now ≤ 128 }
+    requires small { All (λ x. unsigned_abs x < 2 ^ 40) row.now }
+    ensures value { result ≡ total (length cols.now) (λ t. shrunk_value halvings (column_entry cols.now i t) *ℤ at row.now t) }
+    ensures within { unsigned_abs result ≤ 128 * 2 ^ 80 }
+{
+    let mut sum = 0;
+    for t in 0..cols.len() {
+        sum += times(shrunk(cols.at(i, t), halvings), row[t]);
+    }
+    sum
+}
+
+/// `x` times `y`.
+fn times(x: i64, y: i64) -> i128
+    requires left { unsigned_abs x < 2 ^ 40 }
+    requires right { unsigned_abs y < 2 ^ 40 }
+    ensures value { result ≡ x *ℤ y }
+    ensures within { unsigned_abs result ≤ 2 ^ 80 }
+{
+    i128::from(x) * i128::from(y)
+}
