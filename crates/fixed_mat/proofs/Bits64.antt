@@ -1,5 +1,5 @@
 -- Sums of products in 64 bits: where the magnitudes of all terms add up to a number that fits, so does each term and each sum of the first ones.
-use Rattle.std.proofs.Common.{◌≡◌, ℕ, ◌+◌, ◌-◌, ◌<◌, ◌≤◌, ℤ, pos, ◌+ℤ◌, ◌≤ℤ◌, unsigned_abs, to_z, of_z, to_z-of_z, SFits, sym, ap, ◌∙◌, arith}
+use Rattle.std.proofs.Common.{◌≡◌, ℕ, ◌+◌, ◌-◌, ◌<◌, ◌≤◌, ℤ, pos, ◌≤ℤ◌, unsigned_abs, to_z, of_z, to_z-of_z, SFits, sym, ap, ◌∙◌, arith}
 use Rattle.std.proofs.lemmas.Int.{ints, fits_signed_from_abs}
 use mir.Syntax.{w64, w128}
 use Rattle.set_rules.specs.Sum.{total, magnitude}

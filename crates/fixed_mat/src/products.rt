@@ -78,7 +78,7 @@ pub fn dot<const N: usize>(row: &Mat<1, N, Coef>, cols: &Cols<N>, t: usize) -> i
 }
 
 /// `x` times `y`: a product of two numbers that fit 64 bits is one instruction.
-fn times(x: i128, y: i128) -> i128
+pub fn times(x: i128, y: i128) -> i128
     requires left { unsigned_abs x ≤ 1_000_000_000_000 }
     requires right { unsigned_abs y ≤ 1_000_000_000_000_000_000 }
     ensures value { result ≡ x *ℤ y }

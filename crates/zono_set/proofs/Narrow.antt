@@ -1,5 +1,5 @@
 -- Rows whose products with columns fit 64 bits, by the radii.
-use Rattle.std.proofs.Common.{ℕ, ◌*◌, ◌<◌, ◌≤◌, List, length, ℤ, pos, negsuc, ◌*ℤ◌, ◌≤ℤ◌, unsigned_abs, mul-le-mul, le_refl, arith}
+use Rattle.std.proofs.Common.{ℕ, ◌*◌, ◌≤◌, List, length, ℤ, pos, negsuc, ◌*ℤ◌, ◌≤ℤ◌, unsigned_abs, mul-le-mul, le_refl, arith}
 use Rattle.std.proofs.lemmas.Int.{ints}
 use Rattle.set_rules.specs.Sum.{total, magnitude}
 use Rattle.set_rules.specs.Columns.{entry, column_entry, row_magnitude}

@@ -9,8 +9,8 @@ ghost use Rattle.fixed_mat.specs.Narrow.{IsNarrow};
 ghost use Rattle.zono_set.specs.Narrow.{HasNarrowRow};
 
 use fixed_mat::{
-    Coef, Coefs, Cols, Mat, NarrowRounding, Range, Rounding, narrow_rounding, narrow_row_times_column, rounded, row_times_column,
-    row_times_vector,
+    Coef, Coefs, Cols, Mat, NarrowRounding, Range, Rounding, narrow_rounding,
+    narrow_row_times_column, rounded, row_times_column, row_times_vector,
 };
 
 /// Row `r` of `a` times the centre, and `shift` more, rounded.
@@ -32,7 +32,8 @@ pub fn rounded_centre<const R: usize, const N: usize>(
     rounded(row_times_vector(a, r, centre) + shift)
 }
 
-/// Row `r` of `a` times column `t`, rounded; in 64 bits where the products are `narrow`.
+/// Row `r` of `a` times column `t`, rounded; in 64 bits where the products are `narrow`. Kept in line: so a loop over the columns chooses once, and holds the row in registers.
+#[inline(always)]
 pub fn rounded_column<const R: usize, const N: usize>(
     a: &Mat<R, N, Coef>,
     r: usize,

@@ -4,10 +4,10 @@ ghost use Rattle.std.specs.Prelude.{IsTrue, ℕ, ◌<◌};
 ghost use Rattle.zono_set.specs.Narrow.{HasNarrowRow};
 
 use crate::zono::Zono;
-use fixed_mat::{Coef, Mat};
+use fixed_mat::{Coef, Mat, times};
 
 impl<const N: usize> Zono<N> {
-    /// Whether the products of row `r` of `a` with each column fit 64 bits, and so do their sums: the magnitudes of the row times the radii bound them all.
+    /// Whether the products of row `r` of `a` with each column, and their sums, fit 64 bits: the magnitudes of the row times the radii bound them.
     pub(crate) fn has_narrow_row<const R: usize>(&self, a: &Mat<R, N, Coef>, r: usize) -> bool
         requires { r < R }
         ensures { IsTrue result → HasNarrowRow N a.now r self.now.columns }
@@ -15,7 +15,7 @@ impl<const N: usize> Zono<N> {
         let _ = self.cols.len();
         let mut sum = 0;
         for l in 0..N {
-            sum += a.at(r, l).abs() * self.radius(l);
+            sum += times(a.at(r, l).abs(), self.radius(l));
         }
         sum <= 9_000_000_000_000_000_000
     }

@@ -1,10 +1,10 @@
-use Rattle.std.proofs.Common.{◌≡◌, ◌+◌, ◌^◌, ◌≤◌, ◌<◌, ◌*ℤ◌, unsigned_abs, to_z, refl, ap, ◌∙◌, sym, subst, arith}
+use Rattle.std.proofs.Common.{◌≡◌, ◌^◌, ◌≤◌, ◌+ℤ◌, ◌*ℤ◌, unsigned_abs, to_z, ap, ◌∙◌, sym, arith}
 use Rattle.std.proofs.lemmas.Int.{ints}
 use mir.Syntax.{w128}
 use Rattle.set_rules.specs.Sum.{magnitude}
 use Rattle.set_rules.specs.Columns.{entry, row_magnitude}
 use Rattle.set_rules.proofs.Sums.{total-zero}
-use Rattle.fixed_mat.proofs.Bits.{product_fits, sum_fits, next_total, next_small, whole_sum}
+use Rattle.fixed_mat.proofs.Bits.{back, small_fits, sum_on, next_sum, whole_sum}
 use Rattle.zono_set.proofs.Steps.{abs_of}
 use Rattle.zono_set.proofs.Narrow.{narrow-by-radii}
 use Rattle.zono_set.proofs.zono.Zono.has_narrow_row.Given.{Over}
@@ -18,33 +18,33 @@ size_small g c =
     let value = ap unsigned_abs c.at.ensures.value in
     (omega (arith, ints), is)
 
-radius_small : (g : Over) (c : After-radius g) → unsigned_abs c.radius.result ≤ 10 ^ 18
-radius_small g c = let h = c.radius.ensures.within in omega arith
-
 pub loop-l-init : goal.loop-l-init
 loop-l-init g c = record { so_far = sym (total-zero _); within = omega arith }
 
-pub overflow_mul-sum : goal.overflow_mul-sum
-overflow_mul-sum g c = let here = (goal.at.overflow_mul-sum g c).After-radius in product_fits c.abs.result c.radius.result (size_small g here).0 (radius_small g here)
+pub times-sum-requires-clause-left : goal.times-sum-requires-clause-left
+times-sum-requires-clause-left g c =
+    let size = (size_small g (goal.at.times-sum-requires-clause-left g c).After-radius).0 in
+    rw (back c.abs.result (omega arith)) (omega arith)
 
 pub overflow_add-sum : goal.overflow_add-sum
 overflow_add-sum g c =
-    let here = (goal.at.overflow_add-sum g c).After-radius in
+    let small = c.times-sum.ensures.within in
+    let before = c.loop-l.invariant.within in
     let high = c.len.ensures.height_small in
-    let few : c.loop-l.l < 8 = omega arith in
-    sum_fits c.abs.result c.radius.result (size_small g here).0 (radius_small g here) c.loop-l.l c.loop-l.sum-bits (to_z w128 c.loop-l.sum-bits) refl few c.loop-l.invariant.within
+    rw (back c.times-sum.result (omega arith)) (small_fits (to_z w128 c.loop-l.sum-bits +ℤ c.times-sum.result) (omega (arith, ints)))
 
 pub loop-l-preserved : goal.loop-l-preserved
 loop-l-preserved g c =
     let here = (goal.at.loop-l-preserved g c).After-radius in
     let high = c.len.ensures.height_small in
-    let few : c.loop-l.l < 8 = omega arith in
+    let small = c.times-sum.ensures.within in
+    let before = c.loop-l.invariant.within in
+    let sum = sum_on c.loop-l.sum-bits c.times-sum.result (omega arith) (omega arith) in
+    let left = back c.abs.result (let h = (size_small g here).0 in omega arith) ∙ (size_small g here).1 in
+    let right = back c.radius.result (let h = c.radius.ensures.within in omega arith) ∙ c.radius.ensures.value in
     record {
-      so_far = next_total c.abs.result c.radius.result (size_small g here).0 (radius_small g here)
-          c.loop-l.l c.loop-l.sum-bits (to_z w128 c.loop-l.sum-bits) refl few c.loop-l.invariant.within (λ j. magnitude (entry g.row.N c.args.a.now c.args.r j) *ℤ row_magnitude c.args.self.now.columns j) c.loop-l.invariant.so_far
-          (λ i. (size_small g here).1 i *ℤ c.radius.ensures.value i);
-      within = next_small c.abs.result c.radius.result (size_small g here).0 (radius_small g here)
-          c.loop-l.l c.loop-l.sum-bits (to_z w128 c.loop-l.sum-bits) refl few c.loop-l.invariant.within;
+      so_far = sum ∙ next_sum (to_z w128 c.loop-l.sum-bits) c.times-sum.result c.loop-l.l (λ j. magnitude (entry g.row.N c.args.a.now c.args.r j) *ℤ row_magnitude c.args.self.now.columns j) c.loop-l.invariant.so_far (c.times-sum.ensures.value ∙ (λ i. left i *ℤ right i));
+      within = rw sum (omega (arith, ints));
     }
 
 pub returns : goal.returns

@@ -1,6 +1,6 @@
 use Rattle.std.proofs.Common.{length, ◌∙◌, arith}
 use Rattle.std.proofs.lemmas.Int.{ints}
-use Rattle.set_rules.specs.Columns.{at, column_entry, row_magnitude}
+use Rattle.set_rules.specs.Columns.{column_entry}
 use Rattle.set_rules.proofs.Sums.{total-magnitudes-low}
 use Rattle.fixed_mat.proofs.Bits.{back}
 use Rattle.zono_set.proofs.zono.Zono.radius.Goals as goal

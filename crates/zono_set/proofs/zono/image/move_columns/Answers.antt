@@ -53,13 +53,13 @@ move_column-requires g c =
           (
             λ narrow i h. subst (λ (column : List ℤ). total g.row.N (λ l. magnitude (entry g.row.N c.args.a.now i l *ℤ at column l)) ≤ℤ pos 9_000_000_000_000_000_000) (sym (same_column g c)) (c.requires.narrow narrow i h c.loop-t.t below),
             (
-            λ i h. subst (λ (z : ℤ). unsigned_abs (rnd z) ≤ range) (sym (same_product g c i)) (c.requires.fits i h c.loop-t.t below),
-            (
-              states,
-              λ i h. let is = ap (λ xs. at xs i) c.deref_mut.ensures.value ∙ left_is g c i h in
-                  let within = residues-within c.loop-t.t (λ t. total g.row.N (λ j. entry g.row.N c.args.a.now i j *ℤ column_entry c.args.cols.now j t)) in
-                  omega (arith, ints, within.0, within.1),
-            ),
+              λ i h. subst (λ (z : ℤ). unsigned_abs (rnd z) ≤ range) (sym (same_product g c i)) (c.requires.fits i h c.loop-t.t below),
+              (
+                states,
+                λ i h. let is = ap (λ xs. at xs i) c.deref_mut.ensures.value ∙ left_is g c i h in
+                    let within = residues-within c.loop-t.t (λ t. total g.row.N (λ j. entry g.row.N c.args.a.now i j *ℤ column_entry c.args.cols.now j t)) in
+                    omega (arith, ints, within.0, within.1),
+              ),
             ),
           ),
         ),
