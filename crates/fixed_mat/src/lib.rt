@@ -11,7 +11,7 @@ mod round;
 pub use coefs::Coefs;
 pub use cols::Cols;
 pub use mat::{Coef, Limit, Mat, OverLimit, Range, Raw};
-pub use products::{dot, row_times_column, row_times_vector};
+pub use products::{dot, narrow_row_times_column, row_times_column, row_times_vector, times};
 pub use reading::Reading;
 pub use round::{NarrowRounding, Rounding, S, ceil_s, narrow_rounding, residue, rnd, rounded};
 

@@ -3,6 +3,7 @@
 ghost use Rattle.std.specs.Prelude.{◌≡◌, ℕ, ◌+◌, ◌*◌, ◌<◌, ◌≤◌, ◌^◌, length, unsigned_abs, ◌*ℤ◌};
 ghost use Rattle.set_rules.specs.Sum.{total};
 ghost use Rattle.set_rules.specs.Columns.{at, entry, column_entry};
+ghost use Rattle.fixed_mat.specs.Narrow.{IsNarrow};
 
 use crate::cols::Cols;
 use crate::mat::{Coef, Mat, Range};
@@ -46,6 +47,27 @@ pub fn row_times_column<const R: usize, const N: usize>(
     sum
 }
 
+/// Row `r` of `a` times column `t` in 64 bits, where the magnitudes of the products add up to a number that fits.
+pub fn narrow_row_times_column<const R: usize, const N: usize>(
+    a: &Mat<R, N, Coef>,
+    r: usize,
+    cols: &Cols<N>,
+    t: usize,
+) -> i64
+    requires row { r < R }
+    requires column { t < length cols.now }
+    requires narrow { IsNarrow N a.now r cols.now t }
+    ensures value { result ≡ total N (λ l. entry N a.now r l *ℤ column_entry cols.now l t) }
+    ensures within { unsigned_abs result ≤ 9_000_000_000_000_000_000 }
+{
+    let column = cols.column(t);
+    let mut sum = 0;
+    for l in 0..N {
+        sum += a.at(r, l) as i64 * column[l] as i64;
+    }
+    sum
+}
+
 /// The sum of the products of `row` with column `t`, in nano-units times nano-units.
 pub fn dot<const N: usize>(row: &Mat<1, N, Coef>, cols: &Cols<N>, t: usize) -> i128
     requires { t < length cols.now }
@@ -56,7 +78,7 @@ pub fn dot<const N: usize>(row: &Mat<1, N, Coef>, cols: &Cols<N>, t: usize) -> i
 }
 
 /// `x` times `y`: a product of two numbers that fit 64 bits is one instruction.
-fn times(x: i128, y: i128) -> i128
+pub fn times(x: i128, y: i128) -> i128
     requires left { unsigned_abs x ≤ 1_000_000_000_000 }
     requires right { unsigned_abs y ≤ 1_000_000_000_000_000_000 }
     ensures value { result ≡ x *ℤ y }

@@ -1,5 +1,5 @@
 -- The bound of an image's reach: products are no greater than the products of magnitudes, and each rounding adds at most half a unit.
-use Rattle.std.proofs.Common.{◌≡◌, ℕ, zero, suc, ◌+◌, ◌-◌, ◌*◌, ◌<◌, ◌≤◌, List, length, ℤ, pos, negsuc, ◌+ℤ◌, ◌*ℤ◌, ◌≤ℤ◌, unsigned_abs, sum_by, mul-le-mul, sym, ap, ◌∙◌, arith}
+use Rattle.std.proofs.Common.{◌≡◌, ℕ, zero, suc, ◌+◌, ◌*◌, ◌<◌, ◌≤◌, List, length, ℤ, pos, negsuc, ◌+ℤ◌, ◌*ℤ◌, ◌≤ℤ◌, unsigned_abs, sum_by, mul-le-mul, sym, ap, ◌∙◌, arith}
 use Rattle.std.proofs.lemmas.Int.{ints}
 use Rattle.set_rules.specs.Sum.{total, magnitude}
 use Rattle.std.proofs.lemmas.List.FromFn.{sum_by-map-range_with_len_more}
@@ -9,7 +9,7 @@ use Rattle.set_rules.specs.Zono.{Zono, reach, InRange}
 use Rattle.set_rules.specs.Strip.{raw_coefficient}
 use Rattle.set_rules.specs.Image.{image, raw_centre, raw_entry, slack}
 use Rattle.set_rules.proofs.Ring.{mul_add}
-use Rattle.set_rules.proofs.Sums.{total-zero, total-suc, total-same, total-none, total-add, total-scale, total-mono, total-split, total-magnitudes-low, magnitude-add, magnitude-mul}
+use Rattle.set_rules.proofs.Sums.{total-zero, total-suc, total-same, total-none, total-add, total-scale, total-mono, total-magnitudes-low, magnitude-add, magnitude-mul}
 use Rattle.set_rules.proofs.Rounds.{rnd-near, rnd-within, ceil_s-within}
 use Rattle.set_rules.proofs.ImageSets.{reach-image}
 use Rattle.zono_set.specs.Bound.{reach_bound}
@@ -123,14 +123,6 @@ spread-within n c z small few coefficients fits =
     one : (a : ℕ) (r : ℤ) → a ≤ 1_000_000_000_000 → r ≤ℤ pos 1_000_000_000_000_000_000 → pos 0 ≤ℤ r → (pos a *ℤ r) ≤ℤ pos (1_000_000_000_000 * 1_000_000_000_000_000_000)
     one a (pos r) h k l = let small : r ≤ 1_000_000_000_000_000_000 = omega (arith, ints) in let m : a * r ≤ 1_000_000_000_000 * 1_000_000_000_000_000_000 = mul-le-mul h small in omega (arith, ints)
     one a (negsuc r) h k l = absurd (omega (arith, ints))
-
--- the first terms add up to no more than all
-pub total-prefix : (n k : ℕ) (f : ℕ → ℤ) → n ≤ k → total n (λ t. magnitude (f t)) ≤ℤ total k (λ t. magnitude (f t))
-total-prefix n k f h =
-    let whole : n + (k - n) ≡ k = omega arith in
-    let parts = ap (λ m. total m (λ t. magnitude (f t))) (sym whole) ∙ total-split n (k - n) (λ t. magnitude (f t)) in
-    let low = total-magnitudes-low (k - n) (λ t. f (n + t)) in
-    omega (arith, ints)
 
 -- the sum of the magnitudes in a list that was made from a function
 pub sum_by-tabulate : (n : ℕ) (f : ℕ → ℤ) → pos (sum_by unsigned_abs (tabulate n f)) ≡ total n (λ t. magnitude (f t))

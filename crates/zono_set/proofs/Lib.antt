@@ -1,4 +1,5 @@
 pub mod Bound
 pub mod Steps
+pub mod Narrow
 pub mod Reaches
 pub mod Taken

@@ -5,10 +5,12 @@ ghost use Rattle.std.specs.List.{sum_by};
 ghost use Rattle.set_rules.specs.Sum.{total, magnitude};
 ghost use Rattle.set_rules.specs.Columns.{at, entry, column_entry};
 ghost use Rattle.set_rules.specs.Round.{rnd as rnd_of, residue as residue_of};
+ghost use Rattle.fixed_mat.specs.Narrow.{IsNarrow};
+ghost use Rattle.zono_set.specs.Narrow.{HasNarrowRow};
 
 use fixed_mat::{
-    Coef, Coefs, Cols, Mat, Range, Rounding, narrow_rounding, rounded, row_times_column,
-    row_times_vector,
+    Coef, Coefs, Cols, Mat, NarrowRounding, Range, Rounding, narrow_rounding,
+    narrow_row_times_column, rounded, row_times_column, row_times_vector,
 };
 
 /// Row `r` of `a` times the centre, and `shift` more, rounded.
@@ -30,15 +32,18 @@ pub fn rounded_centre<const R: usize, const N: usize>(
     rounded(row_times_vector(a, r, centre) + shift)
 }
 
-/// Row `r` of `a` times column `t`, rounded.
+/// Row `r` of `a` times column `t`, rounded; in 64 bits where the products are `narrow`. Kept in line: so a loop over the columns chooses once, and holds the row in registers.
+#[inline(always)]
 pub fn rounded_column<const R: usize, const N: usize>(
     a: &Mat<R, N, Coef>,
     r: usize,
     cols: &Cols<N>,
     t: usize,
+    narrow: bool,
 ) -> Rounding
     requires row { r < R }
     requires column { t < length cols.now }
+    requires narrow { IsTrue narrow → IsNarrow N a.now r cols.now t }
     ensures nearest { result.nearest ≡ rnd_of (total N (λ l. entry N a.now r l *ℤ column_entry cols.now l t)) }
     ensures residue { result.residue ≡ residue_of (total N (λ l. entry N a.now r l *ℤ column_entry cols.now l t)) }
     ensures within { unsigned_abs result.nearest ≤ 8_100_000_000_000_000_000_000 }
@@ -47,7 +52,22 @@ pub fn rounded_column<const R: usize, const N: usize>(
     ensures states { N ≤ 8 }
 {
     let _ = cols.len();
-    rounded(row_times_column(a, r, cols, t))
+    if narrow {
+        widened(narrow_rounding(narrow_row_times_column(a, r, cols, t)))
+    } else {
+        rounded(row_times_column(a, r, cols, t))
+    }
+}
+
+/// A rounding of 64 bits in 128.
+fn widened(of: NarrowRounding) -> Rounding
+    ensures nearest { result.nearest ≡ of.nearest }
+    ensures residue { result.residue ≡ pos of.residue }
+{
+    Rounding {
+        nearest: i128::from(of.nearest),
+        residue: i128::from(of.residue),
+    }
 }
 
 /// Over the products of a row with all columns: the sum of the rounded magnitudes, and of what the rounding leaves.
@@ -57,13 +77,15 @@ pub struct RowSums {
     pub left: i128,
 }
 
-/// The sums for row `r` of `a`.
+/// The sums for row `r` of `a`, in 64 bits where the products are `narrow`.
 pub fn row_sums<const R: usize, const N: usize>(
     a: &Mat<R, N, Coef>,
     r: usize,
     cols: &Cols<N>,
+    narrow: bool,
 ) -> RowSums
-    requires { r < R }
+    requires row { r < R }
+    requires narrow { IsTrue narrow → HasNarrowRow N a.now r cols.now }
     ensures size { result.size ≡ total (length cols.now) (λ t. magnitude (rnd_of (total N (λ l. entry N a.now r l *ℤ column_entry cols.now l t)))) }
     ensures left { result.left ≡ total (length cols.now) (λ t. residue_of (total N (λ l. entry N a.now r l *ℤ column_entry cols.now l t))) }
     ensures size_low { pos 0 ≤ℤ result.size }
@@ -74,7 +96,7 @@ pub fn row_sums<const R: usize, const N: usize>(
     let mut size = 0;
     let mut left = 0;
     for t in 0..cols.len() {
-        let product = rounded_column(a, r, cols, t);
+        let product = rounded_column(a, r, cols, t, narrow);
         size += product.nearest.abs();
         left += product.residue;
     }

@@ -1,6 +1,7 @@
 //! A zonotope: its centre and its columns.
 
 mod image;
+mod narrow;
 mod strip;
 mod substitute;
 
@@ -108,6 +109,15 @@ impl<const N: usize> Zono<N> {
         ensures states { N ≤ 8 }
     {
         self.centre.at(i, 0).abs() + self.cols.mag(i)
+    }
+
+    /// How far the set reaches from its centre in state `i`.
+    fn radius(&self, i: usize) -> i128
+        requires { i < N }
+        ensures value { result ≡ row_magnitude self.now.columns i }
+        ensures within { unsigned_abs result ≤ 1_000_000_000_000_000_000 }
+    {
+        self.cols.mag(i)
     }
 
     /// Puts other columns in the place of all.

@@ -7,12 +7,14 @@ ghost use Rattle.set_rules.specs.Round.{rnd as rnd_of, residue as residue_of, ce
 ghost use Rattle.set_rules.specs.Reduce.{diagonal_columns};
 ghost use Rattle.set_rules.specs.Zono.{reach, range, InRange};
 ghost use Rattle.set_rules.specs.Image.{raw_centre as raw_centre_of, image as image_of, Encloses, IsFirstPast};
+ghost use Rattle.fixed_mat.specs.Narrow.{IsNarrow};
 ghost use Rattle.zono_set.specs.Bound.{reach_bound as reach_bound_of};
+ghost use Rattle.zono_set.specs.Narrow.{HasNarrowRow};
 
 use crate::products::{rounded_centre, rounded_column, row_sums};
 use crate::zono::{PastRange, Zono};
 use arrayvec::ArrayVec;
-use fixed_mat::{Coef, Cols, Mat, Range, Raw, ceil_s};
+use fixed_mat::{Coef, Cols, Mat, Range, Raw, ceil_s, times};
 
 impl<const N: usize> Zono<N> {
     /// The image under `x ↦ (a x + shift) / S + e v`, rounded outwards, with every one of the `w` disturbances `v` from -1 to 1.
@@ -33,8 +35,9 @@ impl<const N: usize> Zono<N> {
         ensures unchanged { OnErr result (self.new ≡ self.old) }
     {
         self.check_image(a, shift, e, w)?;
+        let narrow = self.has_narrow_rows(a);
         let of_centre = move_centre(a, shift, &mut self.centre);
-        let of_columns = move_columns(a, &mut self.cols);
+        let of_columns = move_columns(a, &mut self.cols, narrow);
         push_noise(e, w, &mut self.cols);
         push_slack(&of_centre, &of_columns, &mut self.cols);
         Ok(())
@@ -115,7 +118,7 @@ impl<const N: usize> Zono<N> {
         let count = self.cols.len() as i128;
         let mut sum = 0;
         for l in 0..N {
-            sum += a.at(i, l).abs() * reaches[l];
+            sum += times(a.at(i, l).abs(), reaches[l]);
         }
         sum + shift.at(i, 0).abs() + 1_000_000_000 * (count + 2 + noise_reach(e, w, i))
     }
@@ -134,7 +137,7 @@ impl<const N: usize> Zono<N> {
         ensures { result ≡ reach (image_of N w a.now shift.now e.now self.now) i }
     {
         let centre = rounded_centre(a, i, &self.centre, shift.at(i, 0));
-        let sums = row_sums(a, i, &self.cols);
+        let sums = row_sums(a, i, &self.cols, self.has_narrow_row(a, i));
         let slack = ceil_s(centre.residue + sums.left);
         centre.nearest.abs() + sums.size + noise_reach(e, w, i) + slack
     }
@@ -176,15 +179,20 @@ fn move_centre<const N: usize>(
     left
 }
 
-/// Moves the columns, and gives the sum of what the rounding leaves in each state.
-fn move_columns<const N: usize>(a: &Mat<N, N, Coef>, cols: &mut Cols<N>) -> ArrayVec<i128, 8>
-    requires { (i : ℕ) → i < N → (t : ℕ) → t < length cols.old → unsigned_abs (rnd_of (total N (λ l. entry N a.now i l *ℤ column_entry cols.old l t))) ≤ range }
+/// Moves the columns, in 64 bits where the products are `narrow`, and gives the sum of what the rounding leaves in each state.
+fn move_columns<const N: usize>(
+    a: &Mat<N, N, Coef>,
+    cols: &mut Cols<N>,
+    narrow: bool,
+) -> ArrayVec<i128, 8>
+    requires narrow { IsTrue narrow → (i : ℕ) → i < N → HasNarrowRow N a.now i cols.old }
+    requires fits { (i : ℕ) → i < N → (t : ℕ) → t < length cols.old → unsigned_abs (rnd_of (total N (λ l. entry N a.now i l *ℤ column_entry cols.old l t))) ≤ range }
     ensures moved { cols.new ≡ tabulate (length cols.old) (λ t. tabulate N (λ i. rnd_of (total N (λ l. entry N a.now i l *ℤ column_entry cols.old l t)))) }
     ensures left { result.items ≡ tabulate N (λ i. total (length cols.old) (λ t. residue_of (total N (λ l. entry N a.now i l *ℤ column_entry cols.old l t)))) }
 {
     let mut left = zeros::<N>(cols);
     for t in 0..cols.len() {
-        move_column(a, cols, t, &mut left);
+        move_column(a, cols, t, narrow, &mut left);
     }
     left
 }
@@ -201,9 +209,16 @@ fn zeros<const N: usize>(cols: &Cols<N>) -> ArrayVec<i128, 8>
     zeros
 }
 
-/// Moves column `t`, and adds what the rounding leaves in each state to `left`.
-fn move_column<const N: usize>(a: &Mat<N, N, Coef>, cols: &mut Cols<N>, t: usize, left: &mut [i128])
+/// Moves column `t`, in 64 bits where the products are `narrow`, and adds what the rounding leaves in each state to `left`.
+fn move_column<const N: usize>(
+    a: &Mat<N, N, Coef>,
+    cols: &mut Cols<N>,
+    t: usize,
+    narrow: bool,
+    left: &mut [i128],
+)
     requires column { t < length cols.old }
+    requires narrow { IsTrue narrow → (i : ℕ) → i < N → IsNarrow N a.now i cols.old t }
     requires fits { (i : ℕ) → i < N → unsigned_abs (rnd_of (total N (λ l. entry N a.now i l *ℤ column_entry cols.old l t))) ≤ range }
     requires states { length left.old ≡ N }
     requires little { (i : ℕ) → i < N → unsigned_abs (at left.old i) ≤ 10 ^ 12 }
@@ -212,7 +227,7 @@ fn move_column<const N: usize>(a: &Mat<N, N, Coef>, cols: &mut Cols<N>, t: usize
 {
     let mut moved: ArrayVec<i128, 8> = ArrayVec::new();
     for i in 0..left.len() {
-        let state = rounded_column(a, i, cols, t);
+        let state = rounded_column(a, i, cols, t, narrow);
         moved.push(state.nearest);
         left[i] += state.residue;
     }

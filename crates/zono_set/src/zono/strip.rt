@@ -55,10 +55,11 @@ impl<const N: usize> Zono<N> {
         ensures holds { StripHolds N c_row.now du y f self.now }
     {
         let middle = self.output_middle(c_row, du);
+        let narrow = self.has_narrow_row(c_row, 0);
         a.clear();
         let mut left = 0;
         for t in 0..self.cols.len() {
-            let product = rounded_column(c_row, 0, &self.cols, t);
+            let product = rounded_column(c_row, 0, &self.cols, t, narrow);
             a.push(product.nearest).unwrap();
             left += product.residue;
         }
@@ -78,7 +79,7 @@ impl<const N: usize> Zono<N> {
         ensures holds { HoldsReadings N c_row.now du f self.now result }
     {
         let middle = self.output_middle(c_row, du);
-        let sums = row_sums(c_row, 0, &self.cols);
+        let sums = row_sums(c_row, 0, &self.cols, self.has_narrow_row(c_row, 0));
         let half = sums.size + f + ceil_s(middle.residue + sums.left);
         (middle.nearest - half, middle.nearest + half)
     }

@@ -1,23 +1,20 @@
-use Rattle.std.proofs.Common.{◌≡◌, ℕ, ◌*◌, ◌^◌, ◌<◌, ◌≤◌, length, ℤ, pos, ◌≤ℤ◌, ◌-ℤ◌, ◌*ℤ◌, unsigned_abs, to_z, of_z, to_z-of_z, SFits, sym, ap, ◌∙◌, mul-le-mul, le_refl, arith}
+use Rattle.std.proofs.Common.{◌≡◌, ℕ, ◌*◌, ◌^◌, ◌<◌, ◌≤◌, length, ℤ, pos, ◌≤ℤ◌, ◌-ℤ◌, ◌*ℤ◌, unsigned_abs, to_z, of_z, to_z-of_z, sym, ap, ◌∙◌, mul-le-mul, le_refl, arith}
 use Rattle.std.proofs.lemmas.Int.{ints, unsigned_abs-mul, fits_signed_from_abs}
 use Rattle.std.proofs.lemmas.List.Sums.{get_or-le-sum_by}
 use Rattle.std.specs.List.{sum_by}
 use mir.Syntax.{w64, w128}
-use Rattle.set_rules.specs.Sum.{total, magnitude}
+use Rattle.set_rules.specs.Sum.{magnitude}
 use Rattle.set_rules.specs.Columns.{at, column_entry}
 use Rattle.set_rules.specs.Round.{rnd, residue}
 use Rattle.set_rules.proofs.Sums.{total-zero}
 use Rattle.fixed_mat.proofs.Bits.{back, sum_on, next_sum}
+use Rattle.fixed_mat.proofs.Bits64.{back64}
 use Rattle.zono_set.proofs.products.narrow_share_sums.Given.{Over}
 use Rattle.zono_set.proofs.products.narrow_share_sums.Goals as goal
 use Rattle.zono_set.proofs.products.narrow_share_sums.Goals.{After-at}
 
 pub loop-t-init : goal.loop-t-init
 loop-t-init g c = record { size = sym (total-zero _); left = sym (total-zero _); size_low = omega (arith, ints); size_high = omega (arith, ints); left_low = omega (arith, ints); left_high = omega (arith, ints) }
-
--- a number of at most 19 digits comes back from 64 bits
-back64 : (z : ℤ) → unsigned_abs z ≤ 9_100_000_000_000_000_000 → to_z w64 (of_z w64 z) ≡ z
-back64 z h = let fits : SFits w64 z = fits_signed_from_abs w64 z (omega arith) in to_z-of_z fits
 
 module _ (g : Over) (c : After-at g) where
   abbrev number : ℤ

@@ -11,7 +11,8 @@ use Rattle.set_rules.proofs.ImageSets.{length-tabulate}
 use Rattle.set_rules.proofs.StripHolds.{strip-keeps}
 use Rattle.fixed_mat.proofs.Bits.{back, sum_on, sum_back, next_sum}
 use Rattle.fixed_mat.proofs.Columns.{pushes}
-use Rattle.zono_set.proofs.Bound.{total-prefix, sum_by-tabulate}
+use Rattle.fixed_mat.proofs.Bits64.{total-prefix}
+use Rattle.zono_set.proofs.Bound.{sum_by-tabulate}
 use Rattle.zono_set.proofs.Steps.{first_row, sum_behind, ok_unless, slack_small, difference_back}
 use Rattle.zono_set.proofs.zono.Zono.fill_strip_row.Given.{Over}
 use Rattle.zono_set.proofs.zono.Zono.fill_strip_row.Goals as goal

@@ -1,4 +1,4 @@
-use Rattle.std.proofs.Common.{◌≡◌, ℕ, ◌+◌, ◌≤◌, ◌++◌, [], length, ℤ, pos, ◌+ℤ◌, ◌*ℤ◌, refl, ap, ◌∙◌, sym, subst, arith}
+use Rattle.std.proofs.Common.{◌≡◌, ℕ, ◌+◌, ◌<◌, ◌≤◌, ◌++◌, [], length, ℤ, pos, ◌+ℤ◌, ◌*ℤ◌, true, refl, ap, ◌∙◌, sym, subst, arith}
 use Rattle.std.proofs.lemmas.Int.{ints}
 use Rattle.set_rules.specs.Sum.{total}
 use Rattle.set_rules.specs.Symbols.{diagonal}
@@ -11,6 +11,7 @@ use Rattle.set_rules.proofs.ImageSets.{length-tabulate, get_or-tabulate, image-p
 use Rattle.fixed_mat.proofs.Columns.{tabulate-same, counted}
 use Rattle.girard_reduce.proofs.Reduced.{same_column}
 use Rattle.zono_set.proofs.Bound.{residue-half, residues-within}
+use Rattle.zono_set.specs.Narrow.{HasNarrowRow}
 use Rattle.zono_set.proofs.zono.Zono.image.Given.{Over}
 use Rattle.zono_set.proofs.zono.Zono.image.Goals as goal
 use Rattle.zono_set.proofs.zono.Zono.image.Goals.{After-push_slack, After-move_centre-arg-1}
@@ -22,10 +23,13 @@ pub move_centre-of_centre-requires : goal.move_centre-of_centre-requires
 move_centre-of_centre-requires g c =
     (omega arith, (omega arith, (omega arith, (c.self.invariant.high, λ i h. centre-in_range g.row.N c.args.w c.args.a.now c.args.shift.now c.args.e.now (record { centre = c.self.inside.centre; columns = c.self.inside.cols }) (fits g c) i h))))
 
+narrow_rows : (g : Over) (c : After-move_centre-arg-1 g) → c.has_narrow_rows-narrow.result ≡ true → (i : ℕ) → i < g.row.N → HasNarrowRow g.row.N c.args.a.now i c.self.inside.cols
+narrow_rows g c = subst (λ (z : Zono). c.has_narrow_rows-narrow.result ≡ true → (i : ℕ) → i < g.row.N → HasNarrowRow g.row.N c.args.a.now i z.columns) (sym c.self.view_is) c.has_narrow_rows-narrow.ensures
+
 pub move_columns-of_columns-requires : goal.move_columns-of_columns-requires
 move_columns-of_columns-requires g c =
     let here = (goal.at.move_columns-of_columns-requires g c).After-move_centre-arg-1 in
-    (omega arith, (omega arith, λ i h t l. entry-in_range g.row.N c.args.w c.args.a.now c.args.shift.now c.args.e.now (record { centre = c.self.inside.centre; columns = c.self.inside.cols }) (fits g here) i h t l))
+    (omega arith, (omega arith, (narrow_rows g here, λ i h t l. entry-in_range g.row.N c.args.w c.args.a.now c.args.shift.now c.args.e.now (record { centre = c.self.inside.centre; columns = c.self.inside.cols }) (fits g here) i h t l)))
 
 room : (g : Over) (c : After-move_centre-arg-1 g) → length c.self.inside.cols + c.args.w + g.row.N ≤ 128
 room g c = let shown = ap (λ (z : Zono). length z.columns) c.self.view_is in let room = c.requires.room in omega arith

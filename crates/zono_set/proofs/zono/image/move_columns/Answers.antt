@@ -1,6 +1,6 @@
-use Rattle.std.proofs.Common.{◌≡◌, ℕ, ◌+◌, ◌<◌, ◌≤◌, [], length, length-append, length-drop, drop, set, get_or, List, ℤ, pos, ◌+ℤ◌, ◌*ℤ◌, unsigned_abs, refl, ap, ◌∙◌, sym, subst, arith}
+use Rattle.std.proofs.Common.{◌≡◌, ℕ, ◌+◌, ◌<◌, ◌≤◌, [], length, length-append, length-drop, drop, set, get_or, List, ℤ, pos, ◌+ℤ◌, ◌*ℤ◌, ◌≤ℤ◌, unsigned_abs, refl, ap, ◌∙◌, sym, subst, arith}
 use Rattle.std.proofs.lemmas.Int.{ints}
-use Rattle.set_rules.specs.Sum.{total}
+use Rattle.set_rules.specs.Sum.{total, magnitude}
 use Rattle.set_rules.specs.Columns.{at, entry, column_entry, tabulate}
 use Rattle.set_rules.specs.Round.{rnd, residue}
 use Rattle.set_rules.specs.Zono.{range}
@@ -17,12 +17,14 @@ product : (g : Over) (c : After-deref_mut g) → List (List ℤ) → ℕ → ℕ
 product g c cols t i = total g.row.N (λ l. entry g.row.N c.args.a.now i l *ℤ column_entry cols l t)
 
 -- the column that is next is as it was
+same_column : (g : Over) (c : After-deref_mut g) → get_or c.loop-t.cols c.loop-t.t [] ≡ get_or c.args.cols.now c.loop-t.t []
+same_column g c =
+    let below : c.loop-t.t < length c.args.cols.now = let n = c.len-t-end.ensures.value in omega arith in
+    ap (λ xs. get_or xs c.loop-t.t []) c.loop-t.invariant.moved ∙ next_column c.args.cols.now (λ t. tabulate g.row.N (λ i. rnd (total g.row.N (λ j. entry g.row.N c.args.a.now i j *ℤ column_entry c.args.cols.now j t)))) c.loop-t.t below
+
 same_product : (g : Over) (c : After-deref_mut g) (i : ℕ)
     → total g.row.N (λ l. entry g.row.N c.args.a.now i l *ℤ column_entry c.loop-t.cols l c.loop-t.t) ≡ total g.row.N (λ l. entry g.row.N c.args.a.now i l *ℤ column_entry c.args.cols.now l c.loop-t.t)
-same_product g c i =
-    let below : c.loop-t.t < length c.args.cols.now = let n = c.len-t-end.ensures.value in omega arith in
-    let column = ap (λ xs. get_or xs c.loop-t.t []) c.loop-t.invariant.moved ∙ next_column c.args.cols.now (λ t. tabulate g.row.N (λ i. rnd (total g.row.N (λ j. entry g.row.N c.args.a.now i j *ℤ column_entry c.args.cols.now j t)))) c.loop-t.t below in
-    ap (λ (column : List ℤ). total g.row.N (λ l. entry g.row.N c.args.a.now i l *ℤ at column l)) column
+same_product g c i = ap (λ (column : List ℤ). total g.row.N (λ l. entry g.row.N c.args.a.now i l *ℤ at column l)) (same_column g c)
 
 left_is : (g : Over) (c : After-deref_mut g) (i : ℕ) → i < g.row.N
     → at c.loop-t.left.items i ≡ total c.loop-t.t (λ t. residue (total g.row.N (λ j. entry g.row.N c.args.a.now i j *ℤ column_entry c.args.cols.now j t)))
@@ -49,12 +51,15 @@ move_column-requires g c =
         (
           omega arith,
           (
-            λ i h. subst (λ (z : ℤ). unsigned_abs (rnd z) ≤ range) (sym (same_product g c i)) (c.requires i h c.loop-t.t below),
+            λ narrow i h. subst (λ (column : List ℤ). total g.row.N (λ l. magnitude (entry g.row.N c.args.a.now i l *ℤ at column l)) ≤ℤ pos 9_000_000_000_000_000_000) (sym (same_column g c)) (c.requires.narrow narrow i h c.loop-t.t below),
             (
-              states,
-              λ i h. let is = ap (λ xs. at xs i) c.deref_mut.ensures.value ∙ left_is g c i h in
-                  let within = residues-within c.loop-t.t (λ t. total g.row.N (λ j. entry g.row.N c.args.a.now i j *ℤ column_entry c.args.cols.now j t)) in
-                  omega (arith, ints, within.0, within.1),
+              λ i h. subst (λ (z : ℤ). unsigned_abs (rnd z) ≤ range) (sym (same_product g c i)) (c.requires.fits i h c.loop-t.t below),
+              (
+                states,
+                λ i h. let is = ap (λ xs. at xs i) c.deref_mut.ensures.value ∙ left_is g c i h in
+                    let within = residues-within c.loop-t.t (λ t. total g.row.N (λ j. entry g.row.N c.args.a.now i j *ℤ column_entry c.args.cols.now j t)) in
+                    omega (arith, ints, within.0, within.1),
+              ),
             ),
           ),
         ),
