@@ -2,3 +2,4 @@ pub mod Bound
 pub mod Steps
 pub mod Reaches
 pub mod Taken
+pub mod Kept

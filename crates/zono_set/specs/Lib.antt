@@ -1,3 +1,4 @@
 pub mod Bound
 pub mod Holds
+pub mod Kept
 pub mod Used

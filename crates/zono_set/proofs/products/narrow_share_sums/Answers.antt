@@ -3,7 +3,7 @@ use Rattle.std.proofs.lemmas.Int.{ints, unsigned_abs-mul, fits_signed_from_abs}
 use Rattle.std.proofs.lemmas.List.Sums.{get_or-le-sum_by}
 use Rattle.std.specs.List.{sum_by}
 use mir.Syntax.{w64, w128}
-use Rattle.set_rules.specs.Sum.{total, magnitude}
+use Rattle.set_rules.specs.Sum.{magnitude}
 use Rattle.set_rules.specs.Columns.{at, column_entry}
 use Rattle.set_rules.specs.Round.{rnd, residue}
 use Rattle.set_rules.proofs.Sums.{total-zero}
