@@ -11,7 +11,7 @@ use Rattle.set_rules.proofs.Sums.{total-same, total-single}
 use Rattle.set_rules.proofs.ImageSets.{length-tabulate, entry-tabulate}
 
 -- each row of diagonal columns has one entry
-row_magnitude-diagonal : (n : ℕ) (r : ℕ → ℤ) (i : ℕ) → i < n → row_magnitude (diagonal_columns n r) i ≡ magnitude (r i)
+pub row_magnitude-diagonal : (n : ℕ) (r : ℕ → ℤ) (i : ℕ) → i < n → row_magnitude (diagonal_columns n r) i ≡ magnitude (r i)
 row_magnitude-diagonal n r i h =
     let entry : ℕ → ℕ → ℤ = λ i t. diagonal r i t in
     ap (λ m. total m (λ t. magnitude (column_entry (diagonal_columns n r) i t))) (length-tabulate n (λ j. tabulate n (λ i. diagonal r i j)))

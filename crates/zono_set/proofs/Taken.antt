@@ -81,7 +81,7 @@ padded n [] i (suc t) = refl
 padded n (column ∷ g) i zero = refl
 padded n (column ∷ g) i (suc t) = padded n g i t
 
-row_magnitude-padded : (n : ℕ) (g : List (List ℤ)) (i : ℕ) → row_magnitude (g ++ replicate n (pos 0) ∷ []) i ≡ row_magnitude g i
+pub row_magnitude-padded : (n : ℕ) (g : List (List ℤ)) (i : ℕ) → row_magnitude (g ++ replicate n (pos 0) ∷ []) i ≡ row_magnitude g i
 row_magnitude-padded n g i =
     let new = g ++ replicate n (pos 0) ∷ [] in
     ap (λ m. total m (λ t. magnitude (column_entry new i t))) (length-append g (replicate n (pos 0) ∷ []))

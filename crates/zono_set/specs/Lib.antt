@@ -1,4 +1,5 @@
 pub mod Bound
 pub mod Holds
+pub mod Kept
 pub mod Narrow
 pub mod Used

@@ -7,13 +7,14 @@ mod substitute;
 
 ghost use Rattle.std.specs.Prelude.{◌≡◌, ℕ, ◌+◌, ◌<◌, ◌≤◌, length, ℤ, pos, ◌+ℤ◌, ◌≤ℤ◌, unsigned_abs, IfOk, IfErr, OnOk, OnErr};
 ghost use Rattle.set_rules.specs.Sum.{magnitude};
-ghost use Rattle.set_rules.specs.Columns.{at, row_magnitude};
+ghost use Rattle.set_rules.specs.Columns.{at, row_magnitude, tabulate};
 ghost use Rattle.set_rules.specs.Zono.{reach, InRange};
 ghost use Rattle.set_rules.specs.Box.{box, hull as hull_of};
 ghost use Rattle.set_rules.specs.Reduce.{reduce_set};
 ghost use Rattle.set_rules.specs.Image.{IsFirstPast};
 ghost use Rattle.zono_set.specs.Holds.{HoldsBox, HoldsState, HoldsSet};
 
+use arrayvec::ArrayVec;
 use fixed_mat::{Cols, Mat, Range};
 use girard_reduce::reduce_in_place;
 use std::marker::Model;
@@ -32,16 +33,19 @@ pub struct PastRange {
 pub struct Zono<const N: usize> {
     centre: Mat<N, 1, Range>,
     cols: Cols<N>,
+    radii: Mat<N, 1, Range>,
 }
 
 impl<const N: usize> Model for Zono<N> {
-    ghost use Rattle.set_rules.specs.Zono.{Zono as Set, IsZono};
+    ghost use Rattle.set_rules.specs.Zono.{Zono as Set};
 
     ghost Value = { Set };
 
     ghost view = { λ z. record { centre = z.centre; columns = z.cols } };
 
-    ghost invariant = { λ z. IsZono N (record { centre = z.centre; columns = z.cols }) };
+    ghost use Rattle.zono_set.specs.Kept.{IsKept};
+
+    ghost invariant = { λ z. IsKept N (record { centre = z.centre; columns = z.cols }) z.radii };
 }
 
 impl<const N: usize> Zono<N> {
@@ -68,6 +72,7 @@ impl<const N: usize> Zono<N> {
         Ok(Zono {
             centre: c.copy(),
             cols,
+            radii: r.copy(),
         })
     }
 
@@ -97,7 +102,7 @@ impl<const N: usize> Zono<N> {
         ensures holds { HoldsState N self.now i result }
     {
         let centre = self.centre.at(i, 0);
-        let radius = self.cols.mag(i);
+        let radius = self.radius(i);
         (centre - radius, centre + radius)
     }
 
@@ -108,16 +113,16 @@ impl<const N: usize> Zono<N> {
         ensures within { unsigned_abs result ≤ 1_000_000_000_000_000_000 }
         ensures states { N ≤ 8 }
     {
-        self.centre.at(i, 0).abs() + self.cols.mag(i)
+        self.centre.at(i, 0).abs() + self.radius(i)
     }
 
-    /// How far the set reaches from its centre in state `i`.
+    /// How far the set reaches from its centre in state `i`: the sum of the magnitudes there, which is kept.
     fn radius(&self, i: usize) -> i128
         requires { i < N }
         ensures value { result ≡ row_magnitude self.now.columns i }
         ensures within { unsigned_abs result ≤ 1_000_000_000_000_000_000 }
     {
-        self.cols.mag(i)
+        self.radii.at(i, 0)
     }
 
     /// Puts other columns in the place of all.
@@ -125,6 +130,7 @@ impl<const N: usize> Zono<N> {
         requires { (i : ℕ) → i < N → (magnitude (at self.old.centre i) +ℤ row_magnitude g i) ≤ℤ pos 1_000_000_000_000_000_000 }
         ensures { self.new ≡ record { centre = self.old.centre; columns = g.entry } }
     {
+        self.radii.replace(&magnitudes(&g));
         self.cols = g;
     }
 
@@ -137,4 +143,16 @@ impl<const N: usize> Zono<N> {
     {
         reduce_in_place(&mut self.cols, max);
     }
+}
+
+/// The sum of the magnitudes in each state.
+fn magnitudes<const N: usize>(cols: &Cols<N>) -> ArrayVec<i128, 8>
+    ensures { result.items ≡ tabulate N (row_magnitude cols.now) }
+{
+    let _ = cols.len();
+    let mut magnitudes = ArrayVec::new();
+    for i in 0..N {
+        magnitudes.push(cols.mag(i));
+    }
+    magnitudes
 }

@@ -12,7 +12,7 @@ ghost use Rattle.zono_set.specs.Bound.{reach_bound as reach_bound_of};
 ghost use Rattle.zono_set.specs.Narrow.{HasNarrowRow};
 
 use crate::products::{rounded_centre, rounded_column, row_sums};
-use crate::zono::{PastRange, Zono};
+use crate::zono::{PastRange, Zono, magnitudes};
 use arrayvec::ArrayVec;
 use fixed_mat::{Coef, Cols, Mat, Range, Raw, ceil_s, times};
 
@@ -40,6 +40,7 @@ impl<const N: usize> Zono<N> {
         let of_columns = move_columns(a, &mut self.cols, narrow);
         push_noise(e, w, &mut self.cols);
         push_slack(&of_centre, &of_columns, &mut self.cols);
+        self.radii.replace(&magnitudes(&self.cols));
         Ok(())
     }
 

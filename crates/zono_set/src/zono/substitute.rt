@@ -39,6 +39,7 @@ impl<const N: usize> Zono<N> {
             return Used::No;
         }
         self.centre.replace(&ahead.centre);
+        self.radii.replace(&ahead.sizes);
         pad(&mut self.cols, a.len());
         take_row(gain, a, &mut self.cols);
         push_radii(&ahead.radii, &mut self.cols);
@@ -58,12 +59,14 @@ impl<const N: usize> Zono<N> {
     fn ahead(&self, a: &Coefs, b: i128, gain: &Mat<N, 1, Coef>) -> Ahead
         requires right { unsigned_abs b ≤ 10 ^ 22 }
         ensures centre { result.centre.items ≡ tabulate N (λ i. at self.now.centre i +ℤ rnd_of (at gain.now i *ℤ b)) }
+        ensures sizes { result.sizes.items ≡ tabulate N (row_magnitude (substitution N gain.now (record { coefficients = a.now; right = b }) self.now).columns) }
         ensures radii { result.radii.items ≡ tabulate N (residue_radius gain.now (record { coefficients = a.now; right = b })) }
         ensures used { result.used ≡ is_used N self.now (substitution N gain.now (record { coefficients = a.now; right = b }) self.now) }
     {
         let _ = self.cols.len();
         let mut centre = ArrayVec::new();
         let mut radii = ArrayVec::new();
+        let mut sizes = ArrayVec::new();
         let mut fits = true;
         let mut spread = 0;
         let mut before = 0;
@@ -71,13 +74,15 @@ impl<const N: usize> Zono<N> {
             let state = self.state_ahead(a, b, gain, i);
             centre.push(state.centre);
             radii.push(state.radius);
+            sizes.push(state.size);
             fits = is_within(fits, state.reach);
             spread += state.size;
-            before += self.cols.mag(i);
+            before += self.radius(i);
         }
         Ahead {
             centre,
             radii,
+            sizes,
             used: is_no_more(fits, spread, before),
         }
     }
@@ -109,11 +114,12 @@ impl<const N: usize> Zono<N> {
     }
 }
 
-/// What a substitution makes of all states: their centres, what makes up for the rounding, and whether the set takes the row.
+/// What a substitution makes of all states: their centres, what makes up for the rounding, the sums of the magnitudes, and whether the set takes the row.
 #[derive(Drop)]
 struct Ahead {
     centre: ArrayVec<i128, 8>,
     radii: ArrayVec<i128, 8>,
+    sizes: ArrayVec<i128, 8>,
     used: bool,
 }
 

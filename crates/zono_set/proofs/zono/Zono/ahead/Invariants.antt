@@ -11,6 +11,7 @@ abbrev pub invariant-loop-i : goal.invariant-loop-i
 invariant-loop-i g l = record {
   centre : l.centre.items ≡ tabulate l.i (λ i. at l.self.centre i +ℤ rnd (at l.gain i *ℤ l.b));
   radii : l.radii.items ≡ tabulate l.i (residue_radius l.gain (record { coefficients = l.a; right = l.b }));
+  sizes : l.sizes.items ≡ tabulate l.i (row_magnitude (substitution g.row.N l.gain (record { coefficients = l.a; right = l.b }) l.self).columns);
   fits : l.fits ≡ all_below l.i (λ i. int_le (reach (substitution g.row.N l.gain (record { coefficients = l.a; right = l.b }) l.self) i) (pos range));
   spread : l.spread ≡ total l.i (row_magnitude (substitution g.row.N l.gain (record { coefficients = l.a; right = l.b }) l.self).columns);
   before : l.before ≡ total l.i (row_magnitude l.self.columns);

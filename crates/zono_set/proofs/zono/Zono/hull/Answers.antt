@@ -1,7 +1,7 @@
 use Rattle.std.proofs.Common.{◌≤◌, ◌^◌, length, ℤ, ◌+ℤ◌, ◌-ℤ◌, unsigned_abs, ap, ◌∙◌, sym, subst, arith}
 use Rattle.std.proofs.lemmas.Int.{ints}
 use Rattle.set_rules.specs.Zono.{Zono, reach}
-use Rattle.set_rules.specs.Columns.{column_entry}
+use Rattle.set_rules.specs.Columns.{at, column_entry}
 use Rattle.set_rules.specs.Box.{hull as hull_of}
 use Rattle.set_rules.proofs.Sums.{total-magnitudes-low}
 use Rattle.set_rules.proofs.ReadingsHold.{hull-inside}
@@ -10,34 +10,34 @@ use Rattle.zono_set.specs.Holds.{HoldsState}
 use Rattle.zono_set.proofs.Steps.{difference_back}
 use Rattle.zono_set.proofs.zono.Zono.hull.Given.{Over}
 use Rattle.zono_set.proofs.zono.Zono.hull.Goals as goal
-use Rattle.zono_set.proofs.zono.Zono.hull.Goals.{After-mag-radius}
+use Rattle.zono_set.proofs.zono.Zono.hull.Goals.{After-radius-radius}
 
 pub returns-clause-value : goal.returns-clause-value
 returns-clause-value g c =
-    let centre = c.at-centre.ensures.value ∙ entry-one c.self.inside.centre c.args.i in
+    let centre = c.at-centre.ensures.value ∙ entry-one c.self.inside.centre c.args.i ∙ ap (λ (z : Zono). at z.centre c.args.i) c.self.view_is in
     let x : unsigned_abs c.at-centre.result ≤ 10 ^ 36 = let h = c.at-centre.ensures.within in omega arith in
-    let y : unsigned_abs c.mag-radius.result ≤ 10 ^ 36 = let h = c.mag-radius.ensures.within in omega arith in
-    (λ i. (difference_back c.at-centre.result c.mag-radius.result x y i, sum_back c.at-centre.result c.mag-radius.result x y i))
-    ∙ (λ i. (centre i -ℤ c.mag-radius.ensures.value i, centre i +ℤ c.mag-radius.ensures.value i)) ∙ ap (λ (z : Zono). hull_of z c.args.i) c.self.view_is
+    let y : unsigned_abs c.radius-radius.result ≤ 10 ^ 36 = let h = c.radius-radius.ensures.within in omega arith in
+    (λ i. (difference_back c.at-centre.result c.radius-radius.result x y i, sum_back c.at-centre.result c.radius-radius.result x y i))
+    ∙ (λ i. (centre i -ℤ c.radius-radius.ensures.value i, centre i +ℤ c.radius-radius.ensures.value i))
 
-between : (g : Over) (c : After-mag-radius g) → (unsigned_abs (hull_of c.args.self.now c.args.i).0 ≤ 1_000_000_000_000_000_000) × (unsigned_abs (hull_of c.args.self.now c.args.i).1 ≤ 1_000_000_000_000_000_000)
+between : (g : Over) (c : After-radius-radius g) → (unsigned_abs (hull_of c.args.self.now c.args.i).0 ≤ 1_000_000_000_000_000_000) × (unsigned_abs (hull_of c.args.self.now c.args.i).1 ≤ 1_000_000_000_000_000_000)
 between g c =
     let low = total-magnitudes-low (length c.args.self.now.columns) (column_entry c.args.self.now.columns c.args.i) in
-    let most = c.self.invariant.in_range c.args.i c.requires in
+    let most = c.self.invariant.set.in_range c.args.i c.requires in
     let shown = ap (λ (z : Zono). reach z c.args.i) c.self.view_is in
     (omega (arith, ints), omega (arith, ints))
 
 pub returns-clause-low : goal.returns-clause-low
 returns-clause-low g c =
-    let value = returns-clause-value g (goal.at.returns-clause-low g c).After-mag-radius in
-    subst (λ (ends : ℤ × ℤ). unsigned_abs ends.0 ≤ 1_000_000_000_000_000_000) (sym value) (between g (goal.at.returns-clause-low g c).After-mag-radius).0
+    let value = returns-clause-value g (goal.at.returns-clause-low g c).After-radius-radius in
+    subst (λ (ends : ℤ × ℤ). unsigned_abs ends.0 ≤ 1_000_000_000_000_000_000) (sym value) (between g (goal.at.returns-clause-low g c).After-radius-radius).0
 
 pub returns-clause-high : goal.returns-clause-high
 returns-clause-high g c =
-    let value = returns-clause-value g (goal.at.returns-clause-high g c).After-mag-radius in
-    subst (λ (ends : ℤ × ℤ). unsigned_abs ends.1 ≤ 1_000_000_000_000_000_000) (sym value) (between g (goal.at.returns-clause-high g c).After-mag-radius).1
+    let value = returns-clause-value g (goal.at.returns-clause-high g c).After-radius-radius in
+    subst (λ (ends : ℤ × ℤ). unsigned_abs ends.1 ≤ 1_000_000_000_000_000_000) (sym value) (between g (goal.at.returns-clause-high g c).After-radius-radius).1
 
 pub returns-clause-holds : goal.returns-clause-holds
 returns-clause-holds g c =
-    let value = returns-clause-value g (goal.at.returns-clause-holds g c).After-mag-radius in
+    let value = returns-clause-value g (goal.at.returns-clause-holds g c).After-radius-radius in
     subst (HoldsState g.row.N c.args.self.now c.args.i) (sym value) (λ q x inside. hull-inside g.row.N q c.args.self.now x inside c.args.i c.requires)

@@ -1,8 +1,8 @@
-use Rattle.std.proofs.Common.{◌≡◌, ℕ, ◌+◌, ◌<◌, ◌≤◌, ◌++◌, [], length, ℤ, pos, ◌+ℤ◌, ◌*ℤ◌, true, refl, ap, ◌∙◌, sym, subst, arith}
+use Rattle.std.proofs.Common.{◌≡◌, ℕ, ◌+◌, ◌<◌, ◌≤◌, ◌++◌, [], length, ℤ, pos, ◌+ℤ◌, ◌*ℤ◌, true, refl, ap, ◌∙◌, mul-one, sym, subst, arith}
 use Rattle.std.proofs.lemmas.Int.{ints}
 use Rattle.set_rules.specs.Sum.{total}
 use Rattle.set_rules.specs.Symbols.{diagonal}
-use Rattle.set_rules.specs.Columns.{at, entry, column_entry, tabulate}
+use Rattle.set_rules.specs.Columns.{at, entry, column_entry, row_magnitude, tabulate}
 use Rattle.set_rules.specs.Round.{residue, ceil_s}
 use Rattle.set_rules.specs.Reduce.{diagonal_columns}
 use Rattle.set_rules.specs.Zono.{Zono, InRange}
@@ -12,6 +12,7 @@ use Rattle.fixed_mat.proofs.Columns.{tabulate-same, counted}
 use Rattle.girard_reduce.proofs.Reduced.{same_column}
 use Rattle.zono_set.proofs.Bound.{residue-half, residues-within}
 use Rattle.zono_set.specs.Narrow.{HasNarrowRow}
+use Rattle.zono_set.proofs.Kept.{added-are, added-within}
 use Rattle.zono_set.proofs.zono.Zono.image.Given.{Over}
 use Rattle.zono_set.proofs.zono.Zono.image.Goals as goal
 use Rattle.zono_set.proofs.zono.Zono.image.Goals.{After-push_slack, After-move_centre-arg-1}
@@ -21,7 +22,7 @@ fits g c = subst (λ (z : Zono). InRange g.row.N (image_of g.row.N c.args.w c.ar
 
 pub move_centre-of_centre-requires : goal.move_centre-of_centre-requires
 move_centre-of_centre-requires g c =
-    (omega arith, (omega arith, (omega arith, (c.self.invariant.high, λ i h. centre-in_range g.row.N c.args.w c.args.a.now c.args.shift.now c.args.e.now (record { centre = c.self.inside.centre; columns = c.self.inside.cols }) (fits g c) i h))))
+    (omega arith, (omega arith, (omega arith, (c.self.invariant.set.high, λ i h. centre-in_range g.row.N c.args.w c.args.a.now c.args.shift.now c.args.e.now (record { centre = c.self.inside.centre; columns = c.self.inside.cols }) (fits g c) i h))))
 
 narrow_rows : (g : Over) (c : After-move_centre-arg-1 g) → c.has_narrow_rows-narrow.result ≡ true → (i : ℕ) → i < g.row.N → HasNarrowRow g.row.N c.args.a.now i c.self.inside.cols
 narrow_rows g c = subst (λ (z : Zono). c.has_narrow_rows-narrow.result ≡ true → (i : ℕ) → i < g.row.N → HasNarrowRow g.row.N c.args.a.now i z.columns) (sym c.self.view_is) c.has_narrow_rows-narrow.ensures
@@ -89,16 +90,32 @@ made g c =
     c.move_centre-of_centre.ensures.moved refl c.move_columns-of_columns.ensures.moved c.push_noise.ensures (c.push_slack.ensures ∙ ap (λ xs. c.push_noise.new.cols ++ xs) (slack_is g c))
     ∙ ap (image_of g.row.N c.args.w c.args.a.now c.args.shift.now c.args.e.now) c.self.view_is
 
+made-fits : (g : Over) (c : After-push_slack g) → let new : Zono = record { centre = c.move_centre-of_centre.new.centre; columns = c.push_slack.new.cols } in InRange g.row.N new
+made-fits g c = subst (InRange g.row.N) (sym (made g c)) c.in_ok-check_image.ensures.ok
+
 pub invariant_of-self : goal.invariant_of-self
-invariant_of-self g c = record {
-  low = c.self.invariant.low;
-  high = c.self.invariant.high;
-  in_range = subst (InRange g.row.N) (sym (made g c)) c.in_ok-check_image.ensures.ok;
-}
+invariant_of-self g c =
+    let here = (goal.at.invariant_of-self g c).After-push_slack in
+    record {
+      set = record {
+        low = c.self.invariant.set.low;
+        high = c.self.invariant.set.high;
+        in_range = made-fits g here;
+      };
+      radii_are = added-are g.row.N (row_magnitude c.push_slack.new.cols) c.replace.new.self (c.replace.ensures ∙ c.deref-3.ensures.0 ∙ c.magnitudes.ensures);
+    }
 
 pub returns-clause-value : goal.returns-clause-value
-returns-clause-value g c = made g c
+returns-clause-value g c = made g (goal.at.returns-clause-value g c).After-push_slack
+
+pub replace-requires : goal.replace-requires
+replace-requires g c =
+    let here = (goal.at.replace-requires g c).After-push_slack in
+    let z : Zono = record { centre = c.move_centre-of_centre.new.centre; columns = c.push_slack.new.cols } in
+    let is = c.deref-3.ensures.0 ∙ c.magnitudes.ensures in
+    let long = ap length is ∙ length-tabulate g.row.N (row_magnitude z.columns) in
+    (omega arith, (long ∙ sym (mul-one g.row.N), added-within g.row.N z c.deref-3.result.now (made-fits g here) is))
 
 pub returns-clause-encloses : goal.returns-clause-encloses
 returns-clause-encloses g c =
-    subst (Encloses g.row.N c.args.w c.args.a.now c.args.shift.now c.args.e.now c.args.self.now) (sym (made g c)) (image-encloses g.row.N c.args.w c.args.a.now c.args.shift.now c.args.e.now c.args.self.now)
+    subst (Encloses g.row.N c.args.w c.args.a.now c.args.shift.now c.args.e.now c.args.self.now) (sym (made g (goal.at.returns-clause-encloses g c).After-push_slack)) (image-encloses g.row.N c.args.w c.args.a.now c.args.shift.now c.args.e.now c.args.self.now)

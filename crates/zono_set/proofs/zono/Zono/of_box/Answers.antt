@@ -1,16 +1,16 @@
-use Rattle.std.proofs.Common.{◌≡◌, ◌≤◌, [], ℤ, ◌+ℤ◌, unsigned_abs, to_z, of_z, ap, ◌∙◌, sym, subst, arith, below_more}
+use Rattle.std.proofs.Common.{◌≡◌, ℕ, ◌<◌, ◌≤◌, [], ℤ, ◌+ℤ◌, unsigned_abs, to_z, of_z, ap, ◌∙◌, sym, subst, arith, below_more}
 use Rattle.std.proofs.lemmas.Int.{ints}
 use mir.Syntax.{w128}
 use Rattle.set_rules.specs.Sum.{magnitude}
 use Rattle.set_rules.specs.Symbols.{diagonal}
-use Rattle.set_rules.specs.Columns.{at, tabulate}
-use Rattle.set_rules.specs.Zono.{Zono, reach}
+use Rattle.set_rules.specs.Columns.{at, row_magnitude, tabulate}
+use Rattle.set_rules.specs.Zono.{Zono, reach, InRange}
 use Rattle.set_rules.specs.Box.{box}
 use Rattle.set_rules.proofs.RowsHold.{box-holds}
 use Rattle.fixed_mat.proofs.Bits.{back, entry-one, sum_back}
 use Rattle.fixed_mat.proofs.Columns.{pushes}
 use Rattle.zono_set.specs.Holds.{HoldsBox}
-use Rattle.zono_set.proofs.Reaches.{reach-box}
+use Rattle.zono_set.proofs.Reaches.{row_magnitude-diagonal, reach-box}
 use Rattle.zono_set.proofs.Steps.{abs_of, abs_small}
 use Rattle.zono_set.proofs.zono.Zono.of_box.Given.{Over}
 use Rattle.zono_set.proofs.zono.Zono.of_box.Goals as goal
@@ -55,3 +55,18 @@ returns-clause-value g c = made g (goal.at.returns-clause-value g c).After-copy
 pub returns-clause-holds : goal.returns-clause-holds
 returns-clause-holds g c =
     subst (HoldsBox g.row.N c.args.c.now c.args.r.now) (sym (made g (goal.at.returns-clause-holds g c).After-copy)) (λ q x positive near. box-holds g.row.N q c.args.c.now c.args.r.now x positive near)
+
+pub invariant_of-result : goal.invariant_of-result
+invariant_of-result g c =
+    let here = (goal.at.invariant_of-result g c).After-copy in
+    let is = made g here in
+    let natural : (i : ℕ) → i < g.row.N → magnitude (at c.args.r.now i) ≡ at c.args.r.now i = λ i h. let low = c.requires.radii i h in omega (arith, ints) in
+    let end : c.loop-i.i ≡ g.row.N = omega arith in
+    record {
+      set = record {
+        low = c.requires.low;
+        high = c.requires.high;
+        in_range = subst (InRange g.row.N) (sym is) (subst (λ n. InRange n (box g.row.N c.args.c.now c.args.r.now)) end c.loop-i.invariant);
+      };
+      radii_are = λ i h. ap (λ xs. at xs i) c.copy-2.ensures ∙ sym (ap (λ (z : Zono). row_magnitude z.columns i) is ∙ row_magnitude-diagonal g.row.N (at c.args.r.now) i h ∙ natural i h);
+    }

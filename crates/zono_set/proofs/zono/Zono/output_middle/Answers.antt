@@ -21,6 +21,6 @@ returns-clause-spread g c =
     let few = c.len.ensures.few in
     let count = c.len.ensures.value ∙ ap (λ (z : Zono). length z.columns) c.self.view_is in
     let size = c.entries.ensures.size in
-    spread-within g.row.N c.args.c_row.now c.args.self.now c.self.invariant.high (omega arith)
+    spread-within g.row.N c.args.c_row.now c.args.self.now c.self.invariant.set.high (omega arith)
     (λ l h. let below : l < length c.args.c_row.now = omega arith in c.entries.ensures.within l (pos 0) below)
-    (subst (InRange g.row.N) c.self.view_is c.self.invariant.in_range)
+    (subst (InRange g.row.N) c.self.view_is c.self.invariant.set.in_range)

@@ -1,4 +1,4 @@
-use Rattle.std.proofs.Common.{◌≡◌, ◌^◌, ◌≤◌, ◌+ℤ◌, ◌*ℤ◌, unsigned_abs, to_z, of_z, ap, ◌∙◌, sym, arith}
+use Rattle.std.proofs.Common.{◌≡◌, ◌^◌, ◌≤◌, ◌+ℤ◌, ◌*ℤ◌, unsigned_abs, to_z, of_z, ap, ◌∙◌, sym, subst, arith}
 use Rattle.std.proofs.lemmas.Int.{ints}
 use mir.Syntax.{w128}
 use Rattle.set_rules.specs.Sum.{total}
@@ -8,6 +8,7 @@ use Rattle.set_rules.specs.Round.{rnd, residue, ceil_s}
 use Rattle.set_rules.specs.Image.{image, raw_centre}
 use Rattle.set_rules.proofs.ImageSets.{reach-image}
 use Rattle.fixed_mat.proofs.Bits.{back, entry-one, sum_back, sum_four, sum_four_fits}
+use Rattle.zono_set.specs.Narrow.{HasNarrowRow}
 use Rattle.zono_set.proofs.Steps.{abs_of, abs_small, slack_small}
 use Rattle.zono_set.proofs.zono.Zono.reach_after.Given.{Over}
 use Rattle.zono_set.proofs.zono.Zono.reach_after.Goals as goal
@@ -48,3 +49,7 @@ returns g c =
     ∙ (λ i. size i +ℤ c.row_sums-sums.ensures.size i +ℤ c.noise_reach.ensures.value i +ℤ ((slack_is g here).0 ∙ (λ ι. ceil_s (residue_is ι +ℤ c.row_sums-sums.ensures.left ι))) i)
     ∙ sym (reach-image g.row.N c.args.w c.args.a.now c.args.shift.now c.args.e.now z c.args.i c.requires.row)
     ∙ ap (λ (z : Zono). reach (image g.row.N c.args.w c.args.a.now c.args.shift.now c.args.e.now z) c.args.i) c.self.view_is
+
+pub row_sums-sums-requires : goal.row_sums-sums-requires
+row_sums-sums-requires g c =
+    (omega arith, (omega arith, (c.requires.row, λ narrow. subst (λ (z : Zono). HasNarrowRow g.row.N c.args.a.now c.args.i z.columns) (sym c.self.view_is) (c.has_narrow_row.ensures narrow))))

@@ -21,7 +21,7 @@ reach_is g c = ap (λ xs. get_or xs c.loop-l.l (pos 0)) c.requires.reaches ∙ g
 reach_small : (g : Over) (c : After-abs g) → unsigned_abs (get_or c.args.reaches.now c.loop-l.l (pos 0)) ≤ 10 ^ 18
 reach_small g c =
     let low = total-magnitudes-low (length c.args.self.now.columns) (column_entry c.args.self.now.columns c.loop-l.l) in
-    let most = c.self.invariant.in_range c.loop-l.l c.loop-l-test.true in
+    let most = c.self.invariant.set.in_range c.loop-l.l c.loop-l-test.true in
     let shown = ap (λ (z : Zono). reach z c.loop-l.l) c.self.view_is in
     let is = reach_is g c in
     omega (arith, ints)

@@ -1,7 +1,7 @@
 use Rattle.std.proofs.Common.{◌≡◌, ℕ, ◌≤◌, ◌++◌, true, if◌then◌else◌, List, length, ℤ, pos, ◌+ℤ◌, ◌-ℤ◌, ◌*ℤ◌, unsigned_abs, to_z, of_z, mul-one, ap, ◌∙◌, sym, subst, arith, rules}
 use mir.Syntax.{w128}
 use Rattle.set_rules.specs.Symbols.{diagonal}
-use Rattle.set_rules.specs.Columns.{at, column_entry, tabulate}
+use Rattle.set_rules.specs.Columns.{at, column_entry, row_magnitude, tabulate}
 use Rattle.set_rules.specs.Round.{rnd}
 use Rattle.set_rules.specs.Rows.{Row}
 use Rattle.set_rules.specs.Zono.{Zono, range, InRange}
@@ -13,6 +13,7 @@ use Rattle.fixed_mat.proofs.Columns.{tabulate-same}
 use Rattle.girard_reduce.proofs.Reduced.{same_column}
 use Rattle.zono_set.specs.Holds.{HoldsRow}
 use Rattle.zono_set.proofs.Steps.{filled-all}
+use Rattle.zono_set.proofs.Kept.{added-are, added-within}
 use Rattle.zono_set.proofs.Taken.{used-in_range}
 use Rattle.zono_set.proofs.zono.Zono.substitute.Given.{Over}
 use Rattle.zono_set.proofs.zono.Zono.substitute.Goals as goal
@@ -58,7 +59,7 @@ pub push_radii-requires : goal.push_radii-requires
 push_radii-requires g c =
     let here = (goal.at.push_radii-requires g c).After-deref in
     let r : ℕ → ℤ = residue_radius c.args.gain.now (row g here) in
-    let is = c.deref-2.ensures.0 ∙ c.ahead-ahead.ensures.radii in
+    let is = c.deref-3.ensures.0 ∙ c.ahead-ahead.ensures.radii in
     let long = ap length c.take_row.ensures ∙ length-tabulate (length c.args.a.now) _ in
     let room = c.requires.room in (
       omega arith,
@@ -77,22 +78,35 @@ made g c =
     let here = (goal.at.invariant_of-self g c).After-deref in
     let before = (goal.at.invariant_of-self g c).After-take_row-arg-1 in
     let r : ℕ → ℤ = residue_radius c.args.gain.now (row g here) in
-    let is = c.deref-2.ensures.0 ∙ c.ahead-ahead.ensures.radii in
+    let is = c.deref-3.ensures.0 ∙ c.ahead-ahead.ensures.radii in
     substitution-parts g.row.N c.args.gain.now (row g here) c.args.self.now c.replace.new.self c.take_row.new.cols c.push_radii.new.cols
     (c.replace.ensures ∙ c.deref.ensures.0 ∙ c.ahead-ahead.ensures.centre)
     (c.take_row.ensures ∙ tabulate-same (length c.args.a.now) (λ t. tabulate g.row.N (λ i. column_entry c.pad.new.cols i t -ℤ rnd (at c.args.gain.now i *ℤ at c.args.a.now t))) (λ t. tabulate g.row.N (λ i. column_entry c.args.self.now.columns i t -ℤ rnd (at c.args.gain.now i *ℤ at c.args.a.now t)))
     (λ t _. tabulate-same g.row.N (λ i. column_entry c.pad.new.cols i t -ℤ rnd (at c.args.gain.now i *ℤ at c.args.a.now t)) (λ i. column_entry c.args.self.now.columns i t -ℤ rnd (at c.args.gain.now i *ℤ at c.args.a.now t))
     (λ i _. ap (λ v. v -ℤ rnd (at c.args.gain.now i *ℤ at c.args.a.now t)) (same_entry g before i t))))
     (c.push_radii.ensures ∙ ap (λ (xs : List (List ℤ)). c.take_row.new.cols ++ xs)
-    (tabulate-same g.row.N (λ j. tabulate g.row.N (λ i. diagonal (at c.deref-2.result.now) i j)) (λ j. tabulate g.row.N (λ i. diagonal r i j))
-    (λ j h. same_column g.row.N j (at c.deref-2.result.now) r (ap (λ xs. at xs j) is ∙ get_or-tabulate g.row.N r j (pos 0) h))))
+    (tabulate-same g.row.N (λ j. tabulate g.row.N (λ i. diagonal (at c.deref-3.result.now) i j)) (λ j. tabulate g.row.N (λ i. diagonal r i j))
+    (λ j h. same_column g.row.N j (at c.deref-3.result.now) r (ap (λ xs. at xs j) is ∙ get_or-tabulate g.row.N r j (pos 0) h))))
 
 pub invariant_of-self : goal.invariant_of-self
-invariant_of-self g c = record {
-  low = c.self.invariant.low;
-  high = c.self.invariant.high;
-  in_range = subst (InRange g.row.N) (sym (made g c)) (fits g (goal.at.invariant_of-self g c).After-deref);
-}
+invariant_of-self g c =
+    let here = (goal.at.invariant_of-self g c).After-deref in
+    record {
+      set = record {
+        low = c.self.invariant.set.low;
+        high = c.self.invariant.set.high;
+        in_range = subst (InRange g.row.N) (sym (made g c)) (fits g here);
+      };
+      radii_are = λ i h. added-are g.row.N (row_magnitude (made_set g here).columns) c.replace-2.new.self (c.replace-2.ensures ∙ c.deref-2.ensures.0 ∙ c.ahead-ahead.ensures.sizes) i h
+          ∙ sym (ap (λ (z : Zono). row_magnitude z.columns i) (made g c));
+    }
+
+pub replace-requires-2 : goal.replace-requires-2
+replace-requires-2 g c =
+    let here = (goal.at.replace-requires-2 g c).After-deref in
+    let is = c.deref-2.ensures.0 ∙ c.ahead-ahead.ensures.sizes in
+    let long = ap length is ∙ length-tabulate g.row.N (row_magnitude (made_set g here).columns) in
+    (omega arith, (long ∙ sym (mul-one g.row.N), added-within g.row.N (made_set g here) c.deref-2.result.now (fits g here) is))
 
 -- the right side comes back from its bits
 made_with : (g : Over) (c : After-push_radii g) → let new : Zono = record { centre = c.replace.new.self; columns = c.push_radii.new.cols } in new ≡ substitution g.row.N c.args.gain.now (record { coefficients = c.args.a.now; right = c.args.b }) c.args.self.now
