@@ -14,7 +14,7 @@ ghost use Rattle.zono_set.specs.Narrow.{HasNarrowRow};
 use crate::products::{rounded_centre, rounded_column, row_sums};
 use crate::zono::{PastRange, Zono, magnitudes};
 use arrayvec::ArrayVec;
-use fixed_mat::{Coef, Cols, Mat, Range, Raw, ceil_s, times};
+use fixed_mat::{Coef, Cols, Mat, Range, Raw, ceil_s};
 
 impl<const N: usize> Zono<N> {
     /// The image under `x ↦ (a x + shift) / S + e v`, rounded outwards, with every one of the `w` disturbances `v` from -1 to 1.
@@ -119,7 +119,7 @@ impl<const N: usize> Zono<N> {
         let count = self.cols.len() as i128;
         let mut sum = 0;
         for l in 0..N {
-            sum += times(a.at(i, l).abs(), reaches[l]);
+            sum += a.at(i, l).abs() * reaches[l];
         }
         sum + shift.at(i, 0).abs() + 1_000_000_000 * (count + 2 + noise_reach(e, w, i))
     }
@@ -180,7 +180,8 @@ fn move_centre<const N: usize>(
     left
 }
 
-/// Moves the columns, in 64 bits where the products are `narrow`, and gives the sum of what the rounding leaves in each state.
+/// Moves the columns, in 64 bits where the products are `narrow`, and gives the sum of what the rounding leaves in each state. Kept out of line: so its loop has the registers for itself.
+#[inline(never)]
 fn move_columns<const N: usize>(
     a: &Mat<N, N, Coef>,
     cols: &mut Cols<N>,
