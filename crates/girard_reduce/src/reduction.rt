@@ -1,4 +1,4 @@
-//! The reduction of a set's columns by rank.
+//! The reduction of a set: the columns with the greatest keys stay, and a box stands for the others.
 
 ghost use Rattle.std.specs.Prelude.{◌≡◌, ℕ, ◌+◌, ◌<◌, ◌≤◌, length, pos, ◌≤ℤ◌, unsigned_abs, slice_index_or, slice_set, take, [], ◌++◌};
 ghost use Rattle.std.specs.List.{All};
