@@ -3,3 +3,4 @@ pub mod Steps
 pub mod Reaches
 pub mod Taken
 pub mod Kept
+pub mod Ahead
