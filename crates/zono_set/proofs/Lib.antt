@@ -4,3 +4,4 @@ pub mod Narrow
 pub mod Reaches
 pub mod Taken
 pub mod Kept
+pub mod Ahead

@@ -1,9 +1,9 @@
 //! A row times a set, rounded.
 
-ghost use Rattle.std.specs.Prelude.{IsTrue, ◌≡◌, ◌<◌, ◌≤◌, ◌^◌, length, pos, ◌≤ℤ◌, ◌+ℤ◌, ◌-ℤ◌, ◌*ℤ◌, ◌*◌, unsigned_abs};
+ghost use Rattle.std.specs.Prelude.{IsTrue, ◌≡◌, ℕ, ◌<◌, ◌≤◌, ◌^◌, length, pos, ◌≤ℤ◌, ◌+ℤ◌, ◌-ℤ◌, ◌*ℤ◌, ◌*◌, unsigned_abs};
 ghost use Rattle.std.specs.List.{sum_by};
 ghost use Rattle.set_rules.specs.Sum.{total, magnitude};
-ghost use Rattle.set_rules.specs.Columns.{at, entry, column_entry};
+ghost use Rattle.set_rules.specs.Columns.{at, entry, column_entry, row_magnitude};
 ghost use Rattle.set_rules.specs.Round.{rnd as rnd_of, residue as residue_of};
 ghost use Rattle.fixed_mat.specs.Narrow.{IsNarrow};
 ghost use Rattle.zono_set.specs.Narrow.{HasNarrowRow};
@@ -116,21 +116,31 @@ pub fn rounded_share(gain: i128, v: i128) -> Rounding
     rounded(gain * v)
 }
 
-/// Over all columns less the share that a gain takes of the row: the sum of the magnitudes in row `i`, and of what the rounding leaves.
-pub fn share_sums<const N: usize>(cols: &Cols<N>, i: usize, gain: i128, a: &Coefs) -> RowSums
+/// Writes to `rest` what is left of row `i` of the columns once a gain takes its share of the row; gives the sum of the magnitudes, and of what the rounding leaves.
+/// Where that sum is past `RANGE`, `rest` may hold anything.
+pub fn take_shares<const N: usize>(
+    cols: &Cols<N>,
+    i: usize,
+    gain: i128,
+    a: &Coefs,
+    rest: &mut [i64; 128],
+) -> RowSums
     requires row { i < N }
     requires gain { unsigned_abs gain ≤ 10 ^ 12 }
+    requires len { length cols.now ≡ length a.now }
+    requires radius { row_magnitude cols.now i ≤ℤ pos 1_000_000_000_000_000_000 }
     ensures size { result.size ≡ total (length a.now) (λ t. magnitude (column_entry cols.now i t -ℤ rnd_of (gain *ℤ at a.now t))) }
     ensures left { result.left ≡ total (length a.now) (λ t. residue_of (gain *ℤ at a.now t)) }
     ensures size_low { pos 0 ≤ℤ result.size }
     ensures size_high { result.size ≤ℤ pos (10 ^ 28) }
     ensures left_low { pos 0 ≤ℤ result.left }
     ensures left_high { result.left ≤ℤ pos (10 ^ 12) }
+    ensures rest { result.size ≤ℤ pos 1_000_000_000_000_000_000 → (t : ℕ) → t < length a.now → at rest.new t ≡ column_entry cols.now i t -ℤ rnd_of (gain *ℤ at a.now t) }
 {
     if has_narrow_shares(gain, a) {
-        narrow_share_sums(cols, i, gain as i64, a)
+        take_narrow_shares(cols, i, gain as i64, a, rest)
     } else {
-        wide_share_sums(cols, i, gain, a)
+        take_wide_shares(cols, i, gain, a, rest)
     }
 }
 
@@ -144,9 +154,17 @@ fn has_narrow_shares(gain: i128, a: &Coefs) -> bool
         && gain.unsigned_abs() * a.sum() <= 9_000_000_000_000_000_000
 }
 
-/// The same sums in 64 bits.
-fn narrow_share_sums<const N: usize>(cols: &Cols<N>, i: usize, gain: i64, a: &Coefs) -> RowSums
+/// The same in 64 bits.
+fn take_narrow_shares<const N: usize>(
+    cols: &Cols<N>,
+    i: usize,
+    gain: i64,
+    a: &Coefs,
+    rest: &mut [i64; 128],
+) -> RowSums
     requires row { i < N }
+    requires len { length cols.now ≡ length a.now }
+    requires radius { row_magnitude cols.now i ≤ℤ pos 1_000_000_000_000_000_000 }
     requires numbers { sum_by unsigned_abs a.now ≤ 9_000_000_000_000_000_000 }
     requires products { unsigned_abs gain * sum_by unsigned_abs a.now ≤ 9_000_000_000_000_000_000 }
     ensures size { result.size ≡ total (length a.now) (λ t. magnitude (column_entry cols.now i t -ℤ rnd_of (gain *ℤ at a.now t))) }
@@ -155,44 +173,61 @@ fn narrow_share_sums<const N: usize>(cols: &Cols<N>, i: usize, gain: i64, a: &Co
     ensures size_high { result.size ≤ℤ pos (10 ^ 28) }
     ensures left_low { pos 0 ≤ℤ result.left }
     ensures left_high { result.left ≤ℤ pos (10 ^ 12) }
+    ensures rest { (t : ℕ) → t < length a.now → at rest.new t ≡ column_entry cols.now i t -ℤ rnd_of (gain *ℤ at a.now t) }
 {
-    let mut size = 0;
-    let mut left = 0;
+    let mut size: u64 = 0;
+    let mut left: u64 = 0;
     for t in 0..a.len() {
         let share = narrow_rounding(gain * a.at(t) as i64);
-        let entry = entry_or_zero(cols, i, t) as i64;
-        size += i128::from((entry - share.nearest).unsigned_abs());
-        left += i128::from(share.residue);
+        let entry = cols.at(i, t) as i64 - share.nearest;
+        rest[t] = entry;
+        size += entry.unsigned_abs();
+        left += share.residue;
     }
-    RowSums { size, left }
+    RowSums {
+        size: i128::from(size),
+        left: i128::from(left),
+    }
 }
 
-/// The same sums in 128 bits.
-fn wide_share_sums<const N: usize>(cols: &Cols<N>, i: usize, gain: i128, a: &Coefs) -> RowSums
+/// The same in 128 bits.
+fn take_wide_shares<const N: usize>(
+    cols: &Cols<N>,
+    i: usize,
+    gain: i128,
+    a: &Coefs,
+    rest: &mut [i64; 128],
+) -> RowSums
     requires row { i < N }
     requires gain { unsigned_abs gain ≤ 10 ^ 12 }
+    requires len { length cols.now ≡ length a.now }
     ensures size { result.size ≡ total (length a.now) (λ t. magnitude (column_entry cols.now i t -ℤ rnd_of (gain *ℤ at a.now t))) }
     ensures left { result.left ≡ total (length a.now) (λ t. residue_of (gain *ℤ at a.now t)) }
     ensures size_low { pos 0 ≤ℤ result.size }
     ensures size_high { result.size ≤ℤ pos (10 ^ 28) }
     ensures left_low { pos 0 ≤ℤ result.left }
     ensures left_high { result.left ≤ℤ pos (10 ^ 12) }
+    ensures rest { result.size ≤ℤ pos 1_000_000_000_000_000_000 → (t : ℕ) → t < length a.now → at rest.new t ≡ column_entry cols.now i t -ℤ rnd_of (gain *ℤ at a.now t) }
 {
     let mut size = 0;
     let mut left = 0;
     for t in 0..a.len() {
         let share = rounded_share(gain, a.at(t));
-        size += (entry_or_zero(cols, i, t) - share.nearest).abs();
+        let entry = cols.at(i, t) - share.nearest;
+        rest[t] = narrowed(entry);
+        size += entry.abs();
         left += share.residue;
     }
     RowSums { size, left }
 }
 
-/// The entry of column `t` in row `i`, 0 past the last column.
-fn entry_or_zero<const N: usize>(cols: &Cols<N>, i: usize, t: usize) -> i128
-    requires { i < N }
-    ensures value { result ≡ column_entry cols.now i t }
-    ensures within { unsigned_abs result ≤ 1_000_000_000_000_000_000 }
+/// An entry in 64 bits, 0 where it is past `RANGE`.
+fn narrowed(entry: i128) -> i64
+    ensures { unsigned_abs entry ≤ 1_000_000_000_000_000_000 → result ≡ entry }
 {
-    if t < cols.len() { cols.at(i, t) } else { 0 }
+    if entry.unsigned_abs() <= 1_000_000_000_000_000_000 {
+        entry as i64
+    } else {
+        0
+    }
 }

@@ -34,6 +34,7 @@ pub struct Zono<const N: usize> {
     centre: Mat<N, 1, Range>,
     cols: Cols<N>,
     radii: Mat<N, 1, Range>,
+    rest: [[i64; 128]; 8],
 }
 
 impl<const N: usize> Model for Zono<N> {
@@ -73,6 +74,7 @@ impl<const N: usize> Zono<N> {
             centre: c.copy(),
             cols,
             radii: r.copy(),
+            rest: [[0; 128]; 8],
         })
     }
 

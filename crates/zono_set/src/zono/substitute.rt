@@ -1,18 +1,18 @@
 //! A row used up: each state takes a multiple of it.
 
-ghost use Rattle.std.specs.Prelude.{◌≡◌, ℕ, ◌+◌, ◌*◌, ◌<◌, ◌≤◌, ◌^◌, ◌⊎◌, ◌&&◌, true, [], ◌∷◌, ◌++◌, length, replicate, ℤ, pos, ◌+ℤ◌, ◌-ℤ◌, ◌*ℤ◌, ◌≤ℤ◌, int_le, unsigned_abs, slice_set};
+ghost use Rattle.std.specs.Prelude.{◌≡◌, ℕ, ◌+◌, ◌*◌, ◌<◌, ◌≤◌, ◌^◌, ◌⊎◌, ◌&&◌, true, [], ◌∷◌, ◌++◌, length, replicate, take, ℤ, pos, ◌+ℤ◌, ◌-ℤ◌, ◌*ℤ◌, ◌≤ℤ◌, int_le, unsigned_abs, slice_set, is_some, IfSome, OnSome};
 ghost use Rattle.set_rules.specs.Columns.{at, column_entry, row_magnitude, tabulate};
 ghost use Rattle.set_rules.specs.Round.{rnd as rnd_of};
 ghost use Rattle.set_rules.specs.Reduce.{diagonal_columns};
 ghost use Rattle.set_rules.specs.Zono.{reach, range};
-ghost use Rattle.set_rules.specs.Gain.{substitution, substitute as substitute_of, residue_radius, is_used};
+ghost use Rattle.set_rules.specs.Gain.{substitution, substitute as substitute_of, residue_radius, in_range, spread, is_used};
 ghost use Rattle.zono_set.specs.Used.{used_where};
 ghost use Rattle.zono_set.specs.Holds.{HoldsRow, HoldsMore};
 
-use crate::products::{rounded_share, share_sums};
+use crate::products::{rounded_share, take_shares};
 use crate::zono::Zono;
 use arrayvec::ArrayVec;
-use fixed_mat::{Coef, Coefs, Cols, Mat, ceil_s};
+use fixed_mat::{Coef, Coefs, Cols, Mat, Range, ceil_s};
 
 /// Whether a set took a row that was offered to it.
 #[derive(Clone, Copy, Debug, PartialEq, Eq)]
@@ -34,14 +34,17 @@ impl<const N: usize> Zono<N> {
         ensures used { result ≡ used_where (is_used N self.old (substitution N gain.now (record { coefficients = a.now; right = b }) self.old)) }
         ensures keeps { (result ≡ used_where true) → HoldsRow N (record { coefficients = a.now; right = b }) self.old self.new }
     {
-        let ahead = self.ahead(a, b, gain);
-        if !ahead.used {
+        let before = self.spread();
+        let count = self.cols.len();
+        pad(&mut self.cols, a.len());
+        let Some(ahead) = look_ahead(&self.centre, &self.cols, before, a, b, gain, &mut self.rest)
+        else {
+            self.cols.truncate(count);
             return Used::No;
-        }
+        };
         self.centre.replace(&ahead.centre);
         self.radii.replace(&ahead.sizes);
-        pad(&mut self.cols, a.len());
-        take_row(gain, a, &mut self.cols);
+        take_rest(&self.rest, &mut self.cols);
         push_radii(&ahead.radii, &mut self.cols);
         Used::Yes
     }
@@ -55,72 +58,106 @@ impl<const N: usize> Zono<N> {
         push_zero(&mut self.cols);
     }
 
-    /// What the substitution makes of all states.
-    fn ahead(&self, a: &Coefs, b: i128, gain: &Mat<N, 1, Coef>) -> Ahead
-        requires right { unsigned_abs b ≤ 10 ^ 22 }
-        ensures centre { result.centre.items ≡ tabulate N (λ i. at self.now.centre i +ℤ rnd_of (at gain.now i *ℤ b)) }
-        ensures sizes { result.sizes.items ≡ tabulate N (row_magnitude (substitution N gain.now (record { coefficients = a.now; right = b }) self.now).columns) }
-        ensures radii { result.radii.items ≡ tabulate N (residue_radius gain.now (record { coefficients = a.now; right = b })) }
-        ensures used { result.used ≡ is_used N self.now (substitution N gain.now (record { coefficients = a.now; right = b }) self.now) }
+    /// The sum of the radii in all states.
+    fn spread(&self) -> i128
+        ensures value { result ≡ spread N self.now }
+        ensures low { pos 0 ≤ℤ result }
+        ensures high { result ≤ℤ pos (10 ^ 20) }
     {
         let _ = self.cols.len();
-        let mut centre = ArrayVec::new();
-        let mut radii = ArrayVec::new();
-        let mut sizes = ArrayVec::new();
-        let mut fits = true;
-        let mut spread = 0;
-        let mut before = 0;
+        let mut sum = 0;
         for i in 0..N {
-            let state = self.state_ahead(a, b, gain, i);
-            centre.push(state.centre);
-            radii.push(state.radius);
-            sizes.push(state.size);
-            fits = is_within(fits, state.reach);
-            spread += state.size;
-            before += self.radius(i);
+            sum += self.radius(i);
         }
-        Ahead {
-            centre,
-            radii,
-            sizes,
-            used: is_no_more(fits, spread, before),
-        }
-    }
-
-    /// What the substitution makes of state `i`.
-    fn state_ahead(&self, a: &Coefs, b: i128, gain: &Mat<N, 1, Coef>, i: usize) -> StateAhead
-        requires right { unsigned_abs b ≤ 10 ^ 22 }
-        requires row { i < N }
-        ensures centre { result.centre ≡ at self.now.centre i +ℤ rnd_of (at gain.now i *ℤ b) }
-        ensures centre_within { unsigned_abs result.centre ≤ 10 ^ 26 }
-        ensures radius { result.radius ≡ residue_radius gain.now (record { coefficients = a.now; right = b }) i }
-        ensures radius_within { unsigned_abs result.radius ≤ 10 ^ 12 }
-        ensures size { result.size ≡ row_magnitude (substitution N gain.now (record { coefficients = a.now; right = b }) self.now).columns i }
-        ensures size_within { unsigned_abs result.size ≤ 10 ^ 29 }
-        ensures reach_within { unsigned_abs result.reach ≤ 10 ^ 30 }
-        ensures reach { result.reach ≡ reach (substitution N gain.now (record { coefficients = a.now; right = b }) self.now) i }
-    {
-        let of_right = rounded_share(gain.at(i, 0), b);
-        let sums = share_sums(&self.cols, i, gain.at(i, 0), a);
-        let centre = self.centre.at(i, 0) + of_right.nearest;
-        let radius = ceil_s(of_right.residue + sums.left);
-        let size = sums.size + radius;
-        StateAhead {
-            centre,
-            radius,
-            size,
-            reach: centre.abs() + size,
-        }
+        sum
     }
 }
 
-/// What a substitution makes of all states: their centres, what makes up for the rounding, the sums of the magnitudes, and whether the set takes the row.
+/// What a substitution makes of all states where the set takes the row; `rest` then holds what is left of the entries, state by state.
+/// It is left at the first state that reaches past `RANGE`, or with which the sum of the radii passes the one before.
+fn look_ahead<const N: usize>(
+    centre: &Mat<N, 1, Range>,
+    cols: &Cols<N>,
+    before: i128,
+    a: &Coefs,
+    b: i128,
+    gain: &Mat<N, 1, Coef>,
+    rest: &mut [[i64; 128]; 8],
+) -> Option<Ahead>
+    requires right { unsigned_abs b ≤ 10 ^ 22 }
+    requires len { length cols.now ≡ length a.now }
+    requires radii { (i : ℕ) → i < N → row_magnitude cols.now i ≤ℤ pos range }
+    requires before_low { pos 0 ≤ℤ before }
+    requires before_high { before ≤ℤ pos (10 ^ 20) }
+    ensures used { is_some result ≡ (in_range N (substitution N gain.now (record { coefficients = a.now; right = b }) (record { centre = centre.now; columns = cols.now })) && int_le (spread N (substitution N gain.now (record { coefficients = a.now; right = b }) (record { centre = centre.now; columns = cols.now }))) before) }
+    ensures centre { IfSome result (λ ahead. ahead.centre.items ≡ tabulate N (λ i. at centre.now i +ℤ rnd_of (at gain.now i *ℤ b))) }
+    ensures radii { IfSome result (λ ahead. ahead.radii.items ≡ tabulate N (residue_radius gain.now (record { coefficients = a.now; right = b }))) }
+    ensures sizes { IfSome result (λ ahead. ahead.sizes.items ≡ tabulate N (row_magnitude (substitution N gain.now (record { coefficients = a.now; right = b }) (record { centre = centre.now; columns = cols.now })).columns)) }
+    ensures rest { OnSome result ((i : ℕ) → i < N → (t : ℕ) → t < length a.now → column_entry rest.new t i ≡ column_entry cols.now i t -ℤ rnd_of (at gain.now i *ℤ at a.now t)) }
+{
+    let _ = cols.len();
+    let mut ahead = Ahead {
+        centre: ArrayVec::new(),
+        radii: ArrayVec::new(),
+        sizes: ArrayVec::new(),
+    };
+    let mut spread = 0;
+    for i in 0..N {
+        let state = state_ahead(centre, cols, a, b, gain, i, &mut rest[i]);
+        spread += state.size;
+        if state.reach > 1_000_000_000_000_000_000 || spread > before {
+            return None;
+        }
+        ahead.centre.push(state.centre);
+        ahead.radii.push(state.radius);
+        ahead.sizes.push(state.size);
+    }
+    Some(ahead)
+}
+
+/// What a substitution makes of state `i`, and in `rest` what is left of its entries, unless it reaches past `RANGE`.
+fn state_ahead<const N: usize>(
+    centre: &Mat<N, 1, Range>,
+    cols: &Cols<N>,
+    a: &Coefs,
+    b: i128,
+    gain: &Mat<N, 1, Coef>,
+    i: usize,
+    rest: &mut [i64; 128],
+) -> StateAhead
+    requires right { unsigned_abs b ≤ 10 ^ 22 }
+    requires row { i < N }
+    requires len { length cols.now ≡ length a.now }
+    requires radius { row_magnitude cols.now i ≤ℤ pos range }
+    ensures centre { result.centre ≡ at centre.now i +ℤ rnd_of (at gain.now i *ℤ b) }
+    ensures centre_within { unsigned_abs result.centre ≤ 10 ^ 26 }
+    ensures radius { result.radius ≡ residue_radius gain.now (record { coefficients = a.now; right = b }) i }
+    ensures radius_within { unsigned_abs result.radius ≤ 10 ^ 12 }
+    ensures size { result.size ≡ row_magnitude (substitution N gain.now (record { coefficients = a.now; right = b }) (record { centre = centre.now; columns = cols.now })).columns i }
+    ensures size_within { unsigned_abs result.size ≤ 10 ^ 29 }
+    ensures reach_within { unsigned_abs result.reach ≤ 10 ^ 30 }
+    ensures reach { result.reach ≡ reach (substitution N gain.now (record { coefficients = a.now; right = b }) (record { centre = centre.now; columns = cols.now })) i }
+    ensures rest { result.reach ≤ℤ pos range → (t : ℕ) → t < length a.now → at rest.new t ≡ column_entry cols.now i t -ℤ rnd_of (at gain.now i *ℤ at a.now t) }
+{
+    let of_right = rounded_share(gain.at(i, 0), b);
+    let sums = take_shares(cols, i, gain.at(i, 0), a, rest);
+    let centre = centre.at(i, 0) + of_right.nearest;
+    let radius = ceil_s(of_right.residue + sums.left);
+    let size = sums.size + radius;
+    StateAhead {
+        centre,
+        radius,
+        size,
+        reach: centre.abs() + size,
+    }
+}
+
+/// What a substitution makes of all states: their centres, what makes up for the rounding, and the sums of the magnitudes.
 #[derive(Drop)]
 struct Ahead {
     centre: ArrayVec<i128, 8>,
     radii: ArrayVec<i128, 8>,
     sizes: ArrayVec<i128, 8>,
-    used: bool,
 }
 
 /// What a substitution makes of a state: its centre, what makes up for the rounding, the sum of the magnitudes and how far it reaches.
@@ -130,20 +167,6 @@ struct StateAhead {
     radius: i128,
     size: i128,
     reach: i128,
-}
-
-/// Whether all before fit, and this reaches no further than `RANGE`.
-fn is_within(fits: bool, reach: i128) -> bool
-    ensures { result ≡ (fits && int_le reach (pos range)) }
-{
-    fits && reach <= 1_000_000_000_000_000_000
-}
-
-/// Whether all fit, and the new sum is no greater.
-fn is_no_more(fits: bool, spread: i128, before: i128) -> bool
-    ensures { result ≡ (fits && int_le spread before) }
-{
-    fits && spread <= before
 }
 
 /// Appends a zero column.
@@ -161,37 +184,36 @@ fn pad<const N: usize>(cols: &mut Cols<N>, len: usize)
     requires room { len ≤ 128 }
     ensures len { length cols.new ≡ len }
     ensures same { (i t : ℕ) → column_entry cols.new i t ≡ column_entry cols.old i t }
+    ensures radii { (i : ℕ) → row_magnitude cols.new i ≡ row_magnitude cols.old i }
+    ensures begins { take (length cols.old) cols.new ≡ cols.old }
 {
     if cols.len() < len {
         push_zero(cols);
     }
 }
 
-/// Takes each state's share of the row from the columns.
-fn take_row<const N: usize>(gain: &Mat<N, 1, Coef>, a: &Coefs, cols: &mut Cols<N>)
-    requires len { length cols.old ≡ length a.now }
-    requires fits { (i : ℕ) → i < N → (t : ℕ) → t < length a.now → unsigned_abs (column_entry cols.old i t -ℤ rnd_of (at gain.now i *ℤ at a.now t)) ≤ range }
-    ensures { cols.new ≡ tabulate (length a.now) (λ t. tabulate N (λ i. column_entry cols.old i t -ℤ rnd_of (at gain.now i *ℤ at a.now t))) }
+/// Puts what is left of the entries in the place of the columns.
+fn take_rest<const N: usize>(rest: &[[i64; 128]; 8], cols: &mut Cols<N>)
+    requires { (i : ℕ) → i < N → (t : ℕ) → t < length cols.old → unsigned_abs (column_entry rest.now t i) ≤ range }
+    ensures { cols.new ≡ tabulate (length cols.old) (λ t. tabulate N (λ i. column_entry rest.now t i)) }
 {
-    for t in 0..a.len() {
-        take_share(gain, a.at(t), cols, t);
+    for t in 0..cols.len() {
+        take_column(rest, cols, t);
     }
 }
 
-/// Takes each state's share of `v` from column `t`.
-fn take_share<const N: usize>(gain: &Mat<N, 1, Coef>, v: i128, cols: &mut Cols<N>, t: usize)
+/// Puts what is left of the entries of column `t` in its place.
+fn take_column<const N: usize>(rest: &[[i64; 128]; 8], cols: &mut Cols<N>, t: usize)
     requires column { t < length cols.old }
-    requires number { unsigned_abs v ≤ 10 ^ 22 }
-    requires fits { (i : ℕ) → i < N → unsigned_abs (column_entry cols.old i t -ℤ rnd_of (at gain.now i *ℤ v)) ≤ range }
-    ensures { cols.new ≡ slice_set cols.old t (tabulate N (λ i. column_entry cols.old i t -ℤ rnd_of (at gain.now i *ℤ v))) }
+    requires fits { (i : ℕ) → i < N → unsigned_abs (column_entry rest.now t i) ≤ range }
+    ensures { cols.new ≡ slice_set cols.old t (tabulate N (λ i. column_entry rest.now t i)) }
 {
     let _ = cols.len();
-    let mut left: ArrayVec<i128, 8> = ArrayVec::new();
+    let mut column: ArrayVec<i128, 8> = ArrayVec::new();
     for i in 0..N {
-        let share = rounded_share(gain.at(i, 0), v);
-        left.push(cols.at(i, t) - share.nearest);
+        column.push(i128::from(rest[i][t]));
     }
-    cols.replace(t, &left);
+    cols.replace(t, &column);
 }
 
 /// Appends the diagonal columns of these radii.
