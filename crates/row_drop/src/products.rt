@@ -23,17 +23,17 @@ pub fn plain_square(a: &Coefs) -> i128
     sum
 }
 
-/// The row times state `i` of the columns, no entry of which is above `bound`.
-pub fn plain_product<const N: usize>(cols: &Cols<N>, i: usize, a: &Coefs, bound: u64) -> i128
+/// The row times state `i` of the columns, in 64 bits where that is narrow enough.
+pub fn plain_product<const N: usize>(cols: &Cols<N>, i: usize, a: &Coefs, narrow: bool) -> i128
     requires state { i < N }
     requires reaches { length cols.now ≤ length a.now }
-    requires bound { greatest_entry cols.now ≤ bound }
-    requires below { bound < 2 ^ 40 }
+    requires entries { greatest_entry cols.now < 2 ^ 40 }
+    requires narrow { IsTrue narrow → greatest_entry cols.now * sum_by unsigned_abs a.now ≤ 9_000_000_000_000_000_000 }
     requires row { sum_by unsigned_abs a.now < 2 ^ 40 }
     ensures value { result ≡ total (length cols.now) (λ t. column_entry cols.now i t *ℤ at a.now t) }
     ensures within { unsigned_abs result ≤ 128 * 2 ^ 80 }
 {
-    if u128::from(bound) * a.sum() <= 9_000_000_000_000_000_000 {
+    if narrow {
         i128::from(narrow_product(cols, i, a))
     } else {
         wide_product(cols, i, a)

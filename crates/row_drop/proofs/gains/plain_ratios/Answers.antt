@@ -1,10 +1,10 @@
-use Rattle.std.proofs.Common.{◌≤◌, ◌<◌, ◌^◌, ◌≡◌, [], length, unsigned_abs, arith, ap, ◌∙◌, SFits, to_z, of_z, to_z-of_z, ◌*ℤ◌}
+use Rattle.std.proofs.Common.{◌≤◌, ◌≡◌, [], length, unsigned_abs, arith, ap, ◌∙◌, SFits, to_z, of_z, to_z-of_z, ◌*ℤ◌}
 use Rattle.std.proofs.lemmas.List.FromFn.{length-map-range_with_len}
 use Rattle.std.proofs.lemmas.List.Elements.{All-push}
 use mir.Syntax.{w128}
 use Rattle.set_rules.specs.Sum.{total}
 use Rattle.set_rules.specs.Columns.{at, column_entry, tabulate}
-use Rattle.set_rules.specs.Gain.{gain_of, greatest_entry}
+use Rattle.set_rules.specs.Gain.{gain_of}
 use Rattle.fixed_mat.proofs.Columns.{pushes}
 use Rattle.row_drop.proofs.Plain.{gain-plain}
 use Rattle.row_drop.proofs.gains.plain_ratios.Goals as goal
@@ -29,6 +29,5 @@ returns-clause-value g c =
     let square_fits : SFits w128 c.plain_square-square.result = record { sfits = c.plain_square-square.type_inv } in
     let square = to_z-of_z square_fits ∙ c.plain_square-square.ensures.value in
     let end : c.loop-i.i ≡ g.row.N = omega arith in
-    let entries : greatest_entry c.args.cols.now < 2 ^ 40 = let h = c.requires.bound in let k = c.requires.below in omega arith in
-    gain-plain g.row.N c.args.a.now c.args.cols.now _ c.requires.long entries c.requires.row
+    gain-plain g.row.N c.args.a.now c.args.cols.now _ c.requires.long c.requires.entries c.requires.row
     (c.loop-i.invariant.value ∙ (λ ι. tabulate (end ι) (λ i. gain_of (total (length c.args.cols.now) (λ t. column_entry c.args.cols.now i t *ℤ at c.args.a.now t)) (square ι))))
