@@ -1,12 +1,12 @@
 //! The gain of each state.
 
-ghost use Rattle.std.specs.Prelude.{IsTrue, ◌≡◌, ◌+◌, ◌*◌, ◌<◌, ◌≤◌, ◌^◌, ◌/◌, ◌⊎◌, length, map, pos, ◌*ℤ◌, int_div, unsigned_abs};
+ghost use Rattle.std.specs.Prelude.{◌≡◌, ◌+◌, ◌*◌, ◌<◌, ◌≤◌, ◌^◌, ◌/◌, ◌⊎◌, length, map, pos, ◌*ℤ◌, int_div, unsigned_abs};
 ghost use Rattle.std.specs.List.{All, sum_by};
 ghost use Rattle.set_rules.specs.Sum.{total};
 ghost use Rattle.set_rules.specs.Columns.{at, column_entry, tabulate};
 ghost use Rattle.set_rules.specs.Gain.{gain as gain_list, shrunk_value, greatest_entry, gain_of, clipped_gain};
 
-use crate::products::{plain_product, plain_square, product_of, square_of};
+use crate::products::{narrow_products, plain_square, product_of, square_of, wide_product};
 use crate::shrink::{all_within, limit_for, shift_of, shrunk_row};
 use arrayvec::ArrayVec;
 use fixed_mat::{Coef, Coefs, Cols, Mat};
@@ -31,19 +31,41 @@ fn gains_of<const N: usize>(cols: &Cols<N>, a: &Coefs) -> ArrayVec<i128, 8>
     ensures high { N ≤ 8 }
 {
     if a.sum() < 1_099_511_627_776 {
-        let narrow = all_within(cols, limit_for(a.sum() as u64));
-        if narrow || all_within(cols, 549_755_813_888) {
-            return plain_ratios(cols, a, narrow);
+        if all_within(cols, limit_for(a.sum() as u64)) {
+            return narrow_ratios(cols, a);
+        }
+        if all_within(cols, 549_755_813_888) {
+            return wide_ratios(cols, a);
         }
     }
     shrunk_ratios(cols, a)
 }
 
-/// The gain of each state where nothing has to be shrunk.
-fn plain_ratios<const N: usize>(cols: &Cols<N>, a: &Coefs, narrow: bool) -> ArrayVec<i128, 8>
+/// The gain of each state where nothing has to be shrunk and the products fit 64 bits.
+fn narrow_ratios<const N: usize>(cols: &Cols<N>, a: &Coefs) -> ArrayVec<i128, 8>
     requires long { (length a.now ≡ length cols.now) ⊎ (length a.now ≡ length cols.now + 1) }
     requires entries { greatest_entry cols.now < 2 ^ 40 }
-    requires narrow { IsTrue narrow → greatest_entry cols.now * sum_by unsigned_abs a.now ≤ 9_000_000_000_000_000_000 }
+    requires row { sum_by unsigned_abs a.now < 2 ^ 40 }
+    requires products { greatest_entry cols.now * sum_by unsigned_abs a.now ≤ 9_000_000_000_000_000_000 }
+    ensures value { result.items ≡ gain_list N cols.now a.now }
+    ensures within { All (λ z. unsigned_abs z ≤ 1_000_000_000_000) result.items }
+    ensures low { 1 ≤ N }
+    ensures high { N ≤ 8 }
+{
+    let _ = cols.len();
+    let square = plain_square(a);
+    let products = narrow_products(cols, a);
+    let mut gains: ArrayVec<i128, 8> = ArrayVec::new();
+    for i in 0..N {
+        gains.push(ratio(i128::from(products[i]), square));
+    }
+    gains
+}
+
+/// The gain of each state where nothing has to be shrunk.
+fn wide_ratios<const N: usize>(cols: &Cols<N>, a: &Coefs) -> ArrayVec<i128, 8>
+    requires long { (length a.now ≡ length cols.now) ⊎ (length a.now ≡ length cols.now + 1) }
+    requires entries { greatest_entry cols.now < 2 ^ 40 }
     requires row { sum_by unsigned_abs a.now < 2 ^ 40 }
     ensures value { result.items ≡ gain_list N cols.now a.now }
     ensures within { All (λ z. unsigned_abs z ≤ 1_000_000_000_000) result.items }
@@ -54,7 +76,7 @@ fn plain_ratios<const N: usize>(cols: &Cols<N>, a: &Coefs, narrow: bool) -> Arra
     let square = plain_square(a);
     let mut gains: ArrayVec<i128, 8> = ArrayVec::new();
     for i in 0..N {
-        gains.push(ratio(plain_product(cols, i, a, narrow), square));
+        gains.push(ratio(wide_product(cols, i, a), square));
     }
     gains
 }

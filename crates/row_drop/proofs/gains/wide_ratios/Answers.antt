@@ -7,7 +7,7 @@ use Rattle.set_rules.specs.Columns.{at, column_entry, tabulate}
 use Rattle.set_rules.specs.Gain.{gain_of}
 use Rattle.fixed_mat.proofs.Columns.{pushes}
 use Rattle.row_drop.proofs.Plain.{gain-plain}
-use Rattle.row_drop.proofs.gains.plain_ratios.Goals as goal
+use Rattle.row_drop.proofs.gains.wide_ratios.Goals as goal
 
 pub push-requires : goal.push-requires
 push-requires g c =
@@ -18,9 +18,9 @@ push-requires g c =
 pub loop-i-preserved : goal.loop-i-preserved
 loop-i-preserved g c =
     let fits : SFits w128 c.ratio.result = record { sfits = c.ratio.type_inv } in
-    let product_fits : SFits w128 c.plain_product.result = record { sfits = c.plain_product.type_inv } in
+    let product_fits : SFits w128 c.wide_product.result = record { sfits = c.wide_product.type_inv } in
     record {
-      value = pushes [] _ _ _ _ _ c.loop-i.invariant.value c.push.ensures.items (to_z-of_z fits ∙ c.ratio.ensures.value ∙ ap (λ p. gain_of p (to_z w128 (of_z w128 c.plain_square-square.result))) (to_z-of_z product_fits ∙ c.plain_product.ensures.value));
+      value = pushes [] _ _ _ _ _ c.loop-i.invariant.value c.push.ensures.items (to_z-of_z fits ∙ c.ratio.ensures.value ∙ ap (λ p. gain_of p (to_z w128 (of_z w128 c.plain_square-square.result))) (to_z-of_z product_fits ∙ c.wide_product.ensures.value));
       within = rw (c.push.ensures.items, to_z-of_z fits) (All-push (λ z. unsigned_abs z ≤ 1_000_000_000_000) c.loop-i.gains.items c.ratio.result c.loop-i.invariant.within c.ratio.ensures.within);
     }
 
