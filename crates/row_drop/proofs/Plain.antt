@@ -1,9 +1,11 @@
 -- Columns and rows that need no shrinking, and their products in 64 bits.
-use Rattle.std.proofs.Common.{◌≡◌, ℕ, ◌+◌, ◌*◌, ◌^◌, ◌<◌, ◌≤◌, ◌⊎◌, max, List, [], ◌∷◌, length, map, take, ℤ, pos, negsuc, unsigned_abs, to_z, of_z, to_z-of_z, SFits, ◌+ℤ◌, ◌*ℤ◌, refl, sym, ap, ◌∙◌, arith, le_refl, mul-le-mul}
-use Rattle.std.proofs.lemmas.Int.{ints, unsigned_abs-mul, fits_signed_from_abs}
+use Rattle.std.proofs.Common.{◌≡◌, ℕ, ◌+◌, ◌*◌, ◌/◌, ◌%◌, ◌^◌, ◌<◌, ◌≤◌, ◌⊎◌, max, List, [], ◌∷◌, length, map, take, ℤ, pos, negsuc, unsigned_abs, to_z, of_z, to_z-of_z, SFits, ◌+ℤ◌, ◌*ℤ◌, refl, sym, ap, ◌∙◌, arith, le_refl, mul-le-mul, mod-eq_of_lt}
+use Rattle.std.proofs.lemmas.Int.{ints, unsigned_abs-mul, fits_signed_from_abs, to_z_pos}
+use Rattle.std.proofs.Math.Pow.{pow_mono}
 use Rattle.std.proofs.lemmas.List.Sums.{sum_by-cons, sum_by_more, sum_by-take-le}
 use Rattle.std.specs.List.{sum_by}
 use Rattle.std.proofs.lemmas.List.FromFn.{length-map-range_with_len}
+use Rattle.std.proofs.Math.Nat.{div-mul-le_self}
 use mir.Syntax.{w64}
 use Rattle.set_rules.specs.Sum.{total}
 use Rattle.set_rules.specs.Columns.{at, column_entry, tabulate}
@@ -82,3 +84,28 @@ module _ (most t : ℕ) (a : List ℤ) (sum entry : ℤ) (more : t < length a) (
 
   pub sum-within : unsigned_abs (sum +ℤ entry *ℤ at a t) ≤ most * sum_by unsigned_abs a
   sum-within = let n = next-within in let w = all in omega arith
+
+-- what is raised to the low bits alone is no greater than what it was raised by
+pub raised-small : (x : ℤ) (limit bits : ℕ) → unsigned_abs x ≤ 10 ^ 18 → limit ≤ 2 ^ 39 → bits ≡ of_z w64 (x +ℤ pos limit) → bits < 2 * limit → unsigned_abs x ≤ limit
+raised-small x limit bits small high is low =
+    let read = to_z_pos w64 bits (omega arith) in
+    let back = ap (to_z w64) is ∙ back64 (x +ℤ pos limit) (omega (arith, ints)) in
+    omega (arith, ints)
+
+-- a power of two that is no greater than what there is room for
+module _ (k sum : ℕ) (few : k ≤ 39) (room : 2 ^ k ≤ 9_000_000_000_000_000_000 / (sum + 1)) where
+  power-small : 2 ^ k ≤ 2 ^ 39
+  power-small = pow_mono few
+
+  pub limit-is : 1 * 2 ^ k % 18_446_744_073_709_551_616 ≡ 2 ^ k
+  limit-is = let p = power-small in ap (λ n. n % 18_446_744_073_709_551_616) (omega arith) ∙ mod-eq_of_lt (omega arith)
+
+  pub limit-high : 1 * 2 ^ k % 18_446_744_073_709_551_616 ≤ 2 ^ 39
+  limit-high = let is = limit-is in let p = power-small in omega arith
+
+  pub limit-product : 1 * 2 ^ k % 18_446_744_073_709_551_616 * sum ≤ 9_000_000_000_000_000_000
+  limit-product =
+      let less : 2 ^ k * (sum + 1) ≤ 9_000_000_000_000_000_000 / (sum + 1) * (sum + 1) = mul-le-mul room (le_refl (sum + 1)) in
+      let whole = div-mul-le_self 9_000_000_000_000_000_000 (sum + 1) in
+      let same = ap (λ n. n * sum) limit-is in
+      omega arith

@@ -6,8 +6,8 @@ ghost use Rattle.set_rules.specs.Sum.{total};
 ghost use Rattle.set_rules.specs.Columns.{at, column_entry, tabulate};
 ghost use Rattle.set_rules.specs.Gain.{gain as gain_list, shrunk_value, greatest_entry, gain_of, clipped_gain};
 
-use crate::products::{plain_product, plain_square, product_of, square_of};
-use crate::shrink::{bound_of, shift_of, shrunk_row};
+use crate::products::{narrow_products, plain_square, product_of, square_of, wide_product};
+use crate::shrink::{all_within, limit_for, shift_of, shrunk_row};
 use arrayvec::ArrayVec;
 use fixed_mat::{Coef, Coefs, Cols, Mat};
 
@@ -30,19 +30,42 @@ fn gains_of<const N: usize>(cols: &Cols<N>, a: &Coefs) -> ArrayVec<i128, 8>
     ensures low { 1 ≤ N }
     ensures high { N ≤ 8 }
 {
-    let bound = bound_of(cols);
-    if bound < 1_099_511_627_776 && a.sum() < 1_099_511_627_776 {
-        plain_ratios(cols, a, bound)
-    } else {
-        shrunk_ratios(cols, a)
+    if a.sum() < 1_099_511_627_776 {
+        if all_within(cols, limit_for(a.sum() as u64)) {
+            return narrow_ratios(cols, a);
+        }
+        if all_within(cols, 549_755_813_888) {
+            return wide_ratios(cols, a);
+        }
     }
+    shrunk_ratios(cols, a)
+}
+
+/// The gain of each state where nothing has to be shrunk and the products fit 64 bits.
+fn narrow_ratios<const N: usize>(cols: &Cols<N>, a: &Coefs) -> ArrayVec<i128, 8>
+    requires long { (length a.now ≡ length cols.now) ⊎ (length a.now ≡ length cols.now + 1) }
+    requires entries { greatest_entry cols.now < 2 ^ 40 }
+    requires row { sum_by unsigned_abs a.now < 2 ^ 40 }
+    requires products { greatest_entry cols.now * sum_by unsigned_abs a.now ≤ 9_000_000_000_000_000_000 }
+    ensures value { result.items ≡ gain_list N cols.now a.now }
+    ensures within { All (λ z. unsigned_abs z ≤ 1_000_000_000_000) result.items }
+    ensures low { 1 ≤ N }
+    ensures high { N ≤ 8 }
+{
+    let _ = cols.len();
+    let square = plain_square(a);
+    let products = narrow_products(cols, a);
+    let mut gains: ArrayVec<i128, 8> = ArrayVec::new();
+    for i in 0..N {
+        gains.push(ratio(i128::from(products[i]), square));
+    }
+    gains
 }
 
 /// The gain of each state where nothing has to be shrunk.
-fn plain_ratios<const N: usize>(cols: &Cols<N>, a: &Coefs, bound: u64) -> ArrayVec<i128, 8>
+fn wide_ratios<const N: usize>(cols: &Cols<N>, a: &Coefs) -> ArrayVec<i128, 8>
     requires long { (length a.now ≡ length cols.now) ⊎ (length a.now ≡ length cols.now + 1) }
-    requires bound { greatest_entry cols.now ≤ bound }
-    requires below { bound < 2 ^ 40 }
+    requires entries { greatest_entry cols.now < 2 ^ 40 }
     requires row { sum_by unsigned_abs a.now < 2 ^ 40 }
     ensures value { result.items ≡ gain_list N cols.now a.now }
     ensures within { All (λ z. unsigned_abs z ≤ 1_000_000_000_000) result.items }
@@ -53,7 +76,7 @@ fn plain_ratios<const N: usize>(cols: &Cols<N>, a: &Coefs, bound: u64) -> ArrayV
     let square = plain_square(a);
     let mut gains: ArrayVec<i128, 8> = ArrayVec::new();
     for i in 0..N {
-        gains.push(ratio(plain_product(cols, i, a, bound), square));
+        gains.push(ratio(wide_product(cols, i, a), square));
     }
     gains
 }

@@ -1,6 +1,6 @@
 //! A row times itself and times the states of columns.
 
-ghost use Rattle.std.specs.Prelude.{IsTrue, ◌≡◌, ◌*◌, ◌<◌, ◌≤◌, ◌^◌, ◌/◌, length, ◌*ℤ◌, unsigned_abs};
+ghost use Rattle.std.specs.Prelude.{ℕ, ◌≡◌, ◌+ℤ◌, ◌*◌, ◌<◌, ◌≤◌, ◌^◌, ◌/◌, length, ◌*ℤ◌, unsigned_abs};
 ghost use Rattle.std.specs.List.{All, sum_by};
 ghost use Rattle.set_rules.specs.Sum.{total};
 ghost use Rattle.set_rules.specs.Columns.{at, column_entry};
@@ -23,40 +23,35 @@ pub fn plain_square(a: &Coefs) -> i128
     sum
 }
 
-/// The row times state `i` of the columns, no entry of which is above `bound`.
-pub fn plain_product<const N: usize>(cols: &Cols<N>, i: usize, a: &Coefs, bound: u64) -> i128
-    requires state { i < N }
-    requires reaches { length cols.now ≤ length a.now }
-    requires bound { greatest_entry cols.now ≤ bound }
-    requires below { bound < 2 ^ 40 }
-    requires row { sum_by unsigned_abs a.now < 2 ^ 40 }
-    ensures value { result ≡ total (length cols.now) (λ t. column_entry cols.now i t *ℤ at a.now t) }
-    ensures within { unsigned_abs result ≤ 128 * 2 ^ 80 }
-{
-    if u128::from(bound) * a.sum() <= 9_000_000_000_000_000_000 {
-        i128::from(narrow_product(cols, i, a))
-    } else {
-        wide_product(cols, i, a)
-    }
-}
-
-/// The row times state `i` of the columns, in 64 bits.
-fn narrow_product<const N: usize>(cols: &Cols<N>, i: usize, a: &Coefs) -> i64
-    requires state { i < N }
+/// The row times each state of the columns, in 64 bits.
+pub fn narrow_products<const N: usize>(cols: &Cols<N>, a: &Coefs) -> [i64; 8]
     requires reaches { length cols.now ≤ length a.now }
     requires numbers { sum_by unsigned_abs a.now < 2 ^ 40 }
     requires products { greatest_entry cols.now * sum_by unsigned_abs a.now ≤ 9_000_000_000_000_000_000 }
-    ensures { result ≡ total (length cols.now) (λ t. column_entry cols.now i t *ℤ at a.now t) }
+    ensures { (i : ℕ) → i < N → at result i ≡ total (length cols.now) (λ t. column_entry cols.now i t *ℤ at a.now t) }
 {
-    let mut sum = 0;
+    let mut sums = [0; 8];
     for t in 0..cols.len() {
-        sum += cols.at(i, t) as i64 * a.at(t) as i64;
+        add_column(&mut sums, cols.column(t), a.at(t) as i64);
     }
-    sum
+    sums
+}
+
+/// Adds each entry of a column, times `number`, to the sum of its state.
+fn add_column(sums: &mut [i64; 8], column: &[i128], number: i64)
+    requires size { length column.now ≤ 8 }
+    requires entries { (k : ℕ) → k < length column.now → unsigned_abs (at column.now k) ≤ 1_000_000_000_000_000_000 }
+    requires products { (k : ℕ) → k < length column.now → unsigned_abs (at column.now k *ℤ number) ≤ 9_000_000_000_000_000_000 }
+    requires sums { (k : ℕ) → k < length column.now → unsigned_abs (at sums.old k +ℤ at column.now k *ℤ number) ≤ 9_000_000_000_000_000_000 }
+    ensures { (k : ℕ) → k < length column.now → at sums.new k ≡ at sums.old k +ℤ at column.now k *ℤ number }
+{
+    for i in 0..column.len() {
+        sums[i] += column[i] as i64 * number;
+    }
 }
 
 /// The row times state `i` of the columns, in 128 bits.
-fn wide_product<const N: usize>(cols: &Cols<N>, i: usize, a: &Coefs) -> i128
+pub fn wide_product<const N: usize>(cols: &Cols<N>, i: usize, a: &Coefs) -> i128
     requires state { i < N }
     requires reaches { length cols.now ≤ length a.now }
     requires entries { greatest_entry cols.now < 2 ^ 40 }

@@ -1,6 +1,6 @@
 //! Numbers brought below `2 ^ 40`, so that their products fit 128 bits.
 
-ghost use Rattle.std.specs.Prelude.{◌≡◌, ◌<◌, ◌≤◌, ◌^◌, ◌/◌, max, length, map, unsigned_abs};
+ghost use Rattle.std.specs.Prelude.{IsTrue, ◌≡◌, ◌*◌, ◌<◌, ◌≤◌, ◌^◌, ◌/◌, max, length, map, unsigned_abs};
 ghost use Rattle.std.specs.List.{All};
 ghost use Rattle.set_rules.specs.Reduce.{greatest};
 ghost use Rattle.set_rules.specs.Gain.{shift_below, shrunk_value, greatest_entry, gain_shift};
@@ -8,27 +8,39 @@ ghost use Rattle.set_rules.specs.Gain.{shift_below, shrunk_value, greatest_entry
 use arrayvec::ArrayVec;
 use fixed_mat::{Coefs, Cols};
 
-/// What no magnitude in the columns is above; at most twice the greatest of them.
-pub fn bound_of<const N: usize>(cols: &Cols<N>) -> u64
-    ensures { greatest_entry cols.now ≤ result }
+/// Whether no magnitude in the columns is above `limit`, a power of two; each entry raised by it then sets low bits alone.
+pub fn all_within<const N: usize>(cols: &Cols<N>, limit: u64) -> bool
+    requires { limit ≤ 2 ^ 39 }
+    ensures { IsTrue result → greatest_entry cols.now ≤ limit }
 {
-    let mut bound = 0;
+    let mut bits = 0;
     for t in 0..cols.len() {
-        bound |= bound_in(cols.column(t));
+        bits |= raised_bits(cols.column(t), limit);
     }
-    bound
+    bits < 2 * limit
 }
 
-/// What no magnitude in a column is above, where its entries fit 64 bits.
-fn bound_in(column: &[i128]) -> u64
-    requires { All (λ z. unsigned_abs z ≤ 1_000_000_000_000_000_000) column.now }
-    ensures { greatest column.now ≤ result }
+/// The bits that any entry of a column sets once it is raised by `limit`.
+fn raised_bits(column: &[i128], limit: u64) -> u64
+    requires limit { limit ≤ 2 ^ 39 }
+    requires within { All (λ z. unsigned_abs z ≤ 1_000_000_000_000_000_000) column.now }
+    ensures { result < 2 * limit → greatest column.now ≤ limit }
 {
-    let mut bound = 0;
+    let mut bits = 0;
     for entry in column {
-        bound |= (*entry as i64).unsigned_abs();
+        bits |= (*entry as i64 + limit as i64).cast_unsigned();
     }
-    bound
+    bits
+}
+
+/// The greatest power of two, at most `2 ^ 39`, whose product with a row of this sum surely fits 64 bits.
+pub fn limit_for(sum: u64) -> u64
+    requires { sum < 2 ^ 40 }
+    ensures high { result ≤ 2 ^ 39 }
+    ensures product { result * sum ≤ 9_000_000_000_000_000_000 }
+{
+    let room: u64 = 9_000_000_000_000_000_000 / (sum + 1);
+    1 << room.ilog2().min(39)
 }
 
 /// The least number of halvings that brings every magnitude in the columns and the row below `2 ^ 40`.

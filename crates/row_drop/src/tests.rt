@@ -61,3 +61,24 @@ fn a_gain_is_clipped(rt: HostRuntime) -> Result<(), Fail> {
     assert_eq!(rt; gain(&cols, &a).at(0, 0), -1_000_000_000_000);
     Ok(())
 }
+
+/// A state and a row too wide for products in 64 bits, and a wider one that has to be shrunk.
+#[test]
+fn wide_rows_are_taken_alike(rt: HostRuntime) -> Result<(), Fail> {
+    for (first, taken) in [(300 * ONE, 999_623_218), (2_000 * ONE, 999_987_871)] {
+        let mut cols: Cols<1> = Cols::new();
+        let mut a = Coefs::new();
+        for v in [first, -200 * ONE] {
+            assert!(rt; cols.len() < 128);
+            cols.push_diagonal(0, v);
+            assert!(rt; a.len() < 128);
+            a.push(v)?;
+        }
+        assert!(rt; a.len() < 128);
+        a.push(7 * ONE)?;
+        assert!(rt; cols.len() == 2);
+        assert!(rt; a.len() == 3);
+        assert_eq!(rt; gain(&cols, &a).at(0, 0), taken);
+    }
+    Ok(())
+}

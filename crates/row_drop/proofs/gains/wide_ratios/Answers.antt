@@ -1,13 +1,13 @@
-use Rattle.std.proofs.Common.{◌≤◌, ◌<◌, ◌^◌, ◌≡◌, [], length, unsigned_abs, arith, ap, ◌∙◌, SFits, to_z, of_z, to_z-of_z, ◌*ℤ◌}
+use Rattle.std.proofs.Common.{◌≤◌, ◌≡◌, [], length, unsigned_abs, arith, ap, ◌∙◌, SFits, to_z, of_z, to_z-of_z, ◌*ℤ◌}
 use Rattle.std.proofs.lemmas.List.FromFn.{length-map-range_with_len}
 use Rattle.std.proofs.lemmas.List.Elements.{All-push}
 use mir.Syntax.{w128}
 use Rattle.set_rules.specs.Sum.{total}
 use Rattle.set_rules.specs.Columns.{at, column_entry, tabulate}
-use Rattle.set_rules.specs.Gain.{gain_of, greatest_entry}
+use Rattle.set_rules.specs.Gain.{gain_of}
 use Rattle.fixed_mat.proofs.Columns.{pushes}
 use Rattle.row_drop.proofs.Plain.{gain-plain}
-use Rattle.row_drop.proofs.gains.plain_ratios.Goals as goal
+use Rattle.row_drop.proofs.gains.wide_ratios.Goals as goal
 
 pub push-requires : goal.push-requires
 push-requires g c =
@@ -18,9 +18,9 @@ push-requires g c =
 pub loop-i-preserved : goal.loop-i-preserved
 loop-i-preserved g c =
     let fits : SFits w128 c.ratio.result = record { sfits = c.ratio.type_inv } in
-    let product_fits : SFits w128 c.plain_product.result = record { sfits = c.plain_product.type_inv } in
+    let product_fits : SFits w128 c.wide_product.result = record { sfits = c.wide_product.type_inv } in
     record {
-      value = pushes [] _ _ _ _ _ c.loop-i.invariant.value c.push.ensures.items (to_z-of_z fits ∙ c.ratio.ensures.value ∙ ap (λ p. gain_of p (to_z w128 (of_z w128 c.plain_square-square.result))) (to_z-of_z product_fits ∙ c.plain_product.ensures.value));
+      value = pushes [] _ _ _ _ _ c.loop-i.invariant.value c.push.ensures.items (to_z-of_z fits ∙ c.ratio.ensures.value ∙ ap (λ p. gain_of p (to_z w128 (of_z w128 c.plain_square-square.result))) (to_z-of_z product_fits ∙ c.wide_product.ensures.value));
       within = rw (c.push.ensures.items, to_z-of_z fits) (All-push (λ z. unsigned_abs z ≤ 1_000_000_000_000) c.loop-i.gains.items c.ratio.result c.loop-i.invariant.within c.ratio.ensures.within);
     }
 
@@ -29,6 +29,5 @@ returns-clause-value g c =
     let square_fits : SFits w128 c.plain_square-square.result = record { sfits = c.plain_square-square.type_inv } in
     let square = to_z-of_z square_fits ∙ c.plain_square-square.ensures.value in
     let end : c.loop-i.i ≡ g.row.N = omega arith in
-    let entries : greatest_entry c.args.cols.now < 2 ^ 40 = let h = c.requires.bound in let k = c.requires.below in omega arith in
-    gain-plain g.row.N c.args.a.now c.args.cols.now _ c.requires.long entries c.requires.row
+    gain-plain g.row.N c.args.a.now c.args.cols.now _ c.requires.long c.requires.entries c.requires.row
     (c.loop-i.invariant.value ∙ (λ ι. tabulate (end ι) (λ i. gain_of (total (length c.args.cols.now) (λ t. column_entry c.args.cols.now i t *ℤ at c.args.a.now t)) (square ι))))

@@ -3,7 +3,7 @@ use Rattle.std.specs.List.{All}
 use Rattle.set_rules.specs.Sum.{total}
 use Rattle.set_rules.specs.Columns.{at, column_entry, tabulate}
 use Rattle.set_rules.specs.Gain.{gain_of}
-use Rattle.row_drop.proofs.gains.plain_ratios.Given as goal
+use Rattle.row_drop.proofs.gains.narrow_ratios.Given as goal
 
 abbrev pub invariant-loop-i : goal.invariant-loop-i
 invariant-loop-i g l = record {

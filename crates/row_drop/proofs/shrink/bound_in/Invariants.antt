@@ -1,6 +1,0 @@
-use Rattle.std.proofs.Common.{◌≤◌, take}
-use Rattle.set_rules.specs.Reduce.{greatest}
-use Rattle.row_drop.proofs.shrink.bound_in.Given as goal
-
-abbrev pub invariant-loop-entry : goal.invariant-loop-entry
-invariant-loop-entry l = greatest (take l.entry-index l.column) ≤ l.bound

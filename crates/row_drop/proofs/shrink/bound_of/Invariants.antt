@@ -1,6 +1,0 @@
-use Rattle.std.proofs.Common.{◌≤◌, take}
-use Rattle.set_rules.specs.Gain.{greatest_entry}
-use Rattle.row_drop.proofs.shrink.bound_of.Given as goal
-
-abbrev pub invariant-loop-t : goal.invariant-loop-t
-invariant-loop-t g l = greatest_entry (take l.t l.cols) ≤ l.bound
