@@ -1,21 +1,17 @@
 -- What rounding gives of numbers that come from their bits.
-use Rattle.std.proofs.Common.{◌≡◌, ℕ, ◌+◌, ◌*◌, ◌^◌, ◌<◌, ◌≤◌, List, [], ◌∷◌, ◌++◌, length, get_or, drop, set, ℤ, pos, ◌+ℤ◌, ◌-ℤ◌, ◌*ℤ◌, ◌≤ℤ◌, unsigned_abs, to_z, of_z, to_z-of_z, SFits, Result, Ok, Err, IsOk, IsErr, arith, refl, sym, ap, ◌∙◌, subst, append_assoc}
-use Rattle.std.proofs.lemmas.Int.{ints, fits_signed_from_abs}
+use Rattle.std.proofs.Common.{◌≡◌, ℕ, ◌+◌, ◌*◌, ◌^◌, ◌<◌, ◌≤◌, List, [], ◌∷◌, ◌++◌, length, get_or, drop, set, ℤ, pos, ◌+ℤ◌, ◌-ℤ◌, ◌*ℤ◌, ◌≤ℤ◌, unsigned_abs, to_z, of_z, SFits, Result, Ok, Err, IsOk, IsErr, arith, refl, sym, ap, ◌∙◌, subst, append_assoc}
+use Rattle.std.proofs.lemmas.Int.{ints}
 use Rattle.std.proofs.lemmas.List.{drop_more, set_at, get_or_at}
 use Rattle.std.proofs.lemmas.List.FromFn.{map-range_with_len_more, length-map-range_with_len, get_or-map-range_with_len}
 use Rattle.std.proofs.lemmas.List.Elements.{All-from_get_or}
 use Rattle.std.specs.List.{All}
-use mir.Syntax.{w64, w128}
+use mir.Syntax.{w128}
 use Rattle.set_rules.specs.Sum.{total, magnitude}
 use Rattle.set_rules.specs.Round.{rnd, residue, ceil_s}
 use Rattle.set_rules.specs.Columns.{at, entry, tabulate}
 use Rattle.set_rules.proofs.Sums.{total-same}
 use Rattle.set_rules.proofs.Rounds.{ceil_s-within, ceil_s-least}
 use Rattle.fixed_mat.proofs.Bits.{back, small_fits}
-
--- a number of at most 19 digits comes back from 64 bits
-pub back64 : (z : ℤ) → unsigned_abs z ≤ 9_100_000_000_000_000_000 → to_z w64 (of_z w64 z) ≡ z
-back64 z h = let fits : SFits w64 z = fits_signed_from_abs w64 z (omega arith) in to_z-of_z fits
 
 -- the rounding of an argument that is this number
 module _ (argument exact r : ℤ) (is : argument ≡ exact) (small : unsigned_abs exact ≤ 8_010_000_000_000_000_000_000_000_000_000) where

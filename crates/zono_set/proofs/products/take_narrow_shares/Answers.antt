@@ -8,8 +8,7 @@ use Rattle.set_rules.specs.Columns.{at, column_entry}
 use Rattle.set_rules.specs.Round.{rnd, residue}
 use Rattle.set_rules.proofs.Sums.{total-zero, total-more}
 use Rattle.fixed_mat.proofs.Bits.{back, next_sum}
-use Rattle.zono_set.proofs.Bound.{total-prefix}
-use Rattle.zono_set.proofs.Steps.{back64}
+use Rattle.fixed_mat.proofs.Bits64.{back64, total-prefix}
 use Rattle.zono_set.proofs.products.take_narrow_shares.Given.{Over}
 use Rattle.zono_set.proofs.products.take_narrow_shares.Goals as goal
 use Rattle.zono_set.proofs.products.take_narrow_shares.Goals.{After-at, After-unsigned_abs-size}

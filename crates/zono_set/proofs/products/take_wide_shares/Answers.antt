@@ -6,7 +6,8 @@ use Rattle.set_rules.specs.Columns.{at, column_entry}
 use Rattle.set_rules.specs.Round.{rnd, residue}
 use Rattle.set_rules.proofs.Sums.{total-zero, magnitude-le-total}
 use Rattle.fixed_mat.proofs.Bits.{back, small_fits, sum_on, next_sum}
-use Rattle.zono_set.proofs.Steps.{back64, difference_back}
+use Rattle.fixed_mat.proofs.Bits64.{back64}
+use Rattle.zono_set.proofs.Steps.{difference_back}
 use Rattle.zono_set.proofs.products.take_wide_shares.Given.{Over}
 use Rattle.zono_set.proofs.products.take_wide_shares.Goals as goal
 use Rattle.zono_set.proofs.products.take_wide_shares.Goals.{After-abs-size}
