@@ -1,11 +1,12 @@
 -- Columns and rows that need no shrinking, and their products in 64 bits.
-use Rattle.std.proofs.Common.{◌≡◌, ℕ, ◌+◌, ◌*◌, ◌/◌, ◌%◌, ◌^◌, ◌<◌, ◌≤◌, ◌⊎◌, max, List, [], ◌∷◌, length, map, take, ℤ, pos, negsuc, unsigned_abs, to_z, of_z, to_z-of_z, SFits, ◌+ℤ◌, ◌*ℤ◌, refl, sym, ap, ◌∙◌, arith, le_refl, mul-le-mul, mod-eq_of_lt}
-use Rattle.std.proofs.lemmas.Int.{ints, unsigned_abs-mul, fits_signed_from_abs, to_z_pos}
+use Rattle.std.proofs.Common.{◌≡◌, ℕ, ◌+◌, ◌*◌, ◌/◌, ◌%◌, ◌^◌, ◌<◌, ◌≤◌, ◌⊎◌, max, List, [], ◌∷◌, length, map, take, ℤ, pos, negsuc, unsigned_abs, to_z, of_z, ◌+ℤ◌, ◌*ℤ◌, refl, sym, ap, ◌∙◌, arith, le_refl, mul-le-mul, mod-eq_of_lt}
+use Rattle.std.proofs.lemmas.Int.{ints, unsigned_abs-mul, to_z_pos}
 use Rattle.std.proofs.Math.Pow.{pow_mono}
 use Rattle.std.proofs.lemmas.List.Sums.{sum_by-cons, sum_by_more, sum_by-take-le}
 use Rattle.std.specs.List.{sum_by}
 use Rattle.std.proofs.lemmas.List.FromFn.{length-map-range_with_len}
 use Rattle.std.proofs.Math.Nat.{div-mul-le_self}
+use Rattle.fixed_mat.proofs.Bits64.{back64}
 use mir.Syntax.{w64}
 use Rattle.set_rules.specs.Sum.{total}
 use Rattle.set_rules.specs.Columns.{at, column_entry, tabulate}
@@ -57,10 +58,6 @@ gain-plain n a g gains long entries numbers is =
 pub gain-long : (n : ℕ) (g : List (List ℤ)) (a : List ℤ) → length (gain n g a) ≡ n
 unfolding gain_at
 gain-long n g a = length-map-range_with_len _ 0 n
-
--- a number of at most 19 digits comes back from 64 bits
-pub back64 : (z : ℤ) → unsigned_abs z ≤ 9_100_000_000_000_000_000 → to_z w64 (of_z w64 z) ≡ z
-back64 z h = let fits : SFits w64 z = fits_signed_from_abs w64 z (omega arith) in to_z-of_z fits
 
 -- one more product of a sum that stays within a bound
 module _ (most t : ℕ) (a : List ℤ) (sum entry : ℤ) (more : t < length a) (within : unsigned_abs sum ≤ most * sum_by unsigned_abs (take t a)) (small : unsigned_abs entry ≤ most) where

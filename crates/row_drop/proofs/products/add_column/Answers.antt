@@ -5,7 +5,7 @@ use mir.Syntax.{w64, w128}
 use Rattle.std.proofs.Math.ListN.{set}
 use Rattle.set_rules.specs.Columns.{at}
 use Rattle.fixed_mat.proofs.Bits.{back}
-use Rattle.row_drop.proofs.Plain.{back64}
+use Rattle.fixed_mat.proofs.Bits64.{back64}
 use Rattle.row_drop.proofs.products.add_column.Goals as goal
 use Rattle.row_drop.proofs.products.add_column.Goals.{After-sums-in-loop-i-1}
 

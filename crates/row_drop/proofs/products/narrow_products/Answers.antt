@@ -7,7 +7,8 @@ use Rattle.set_rules.specs.Gain.{greatest_entry}
 use Rattle.set_rules.proofs.Sums.{total-zero}
 use Rattle.set_rules.proofs.Greatest.{greatest_entry-at}
 use Rattle.fixed_mat.proofs.Bits.{back, next_sum}
-use Rattle.row_drop.proofs.Plain.{back64, next-within, product-within, sum-within}
+use Rattle.fixed_mat.proofs.Bits64.{back64}
+use Rattle.row_drop.proofs.Plain.{next-within, product-within, sum-within}
 use Rattle.row_drop.proofs.products.narrow_products.Given.{Over}
 use Rattle.row_drop.proofs.products.narrow_products.Goals as goal
 use Rattle.row_drop.proofs.products.narrow_products.Goals.{After-at}

@@ -5,7 +5,7 @@ use mir.Syntax.{w64, w128}
 use Rattle.set_rules.specs.Columns.{at}
 use Rattle.set_rules.proofs.Sums.{total-zero}
 use Rattle.fixed_mat.proofs.Bits.{back, sum_on, next_sum}
-use Rattle.row_drop.proofs.Plain.{back64}
+use Rattle.fixed_mat.proofs.Bits64.{back64}
 use Rattle.row_drop.proofs.products.plain_square.Goals as goal
 
 pub loop-t-init : goal.loop-t-init

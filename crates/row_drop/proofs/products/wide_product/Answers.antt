@@ -6,7 +6,7 @@ use Rattle.set_rules.specs.Columns.{at, column_entry}
 use Rattle.set_rules.proofs.Sums.{total-zero}
 use Rattle.set_rules.proofs.Greatest.{greatest_entry-at}
 use Rattle.fixed_mat.proofs.Bits.{back, sum_on, next_sum}
-use Rattle.row_drop.proofs.Plain.{back64}
+use Rattle.fixed_mat.proofs.Bits64.{back64}
 use Rattle.row_drop.proofs.products.wide_product.Given.{Over}
 use Rattle.row_drop.proofs.products.wide_product.Goals as goal
 use Rattle.row_drop.proofs.products.wide_product.Goals.{After-at}

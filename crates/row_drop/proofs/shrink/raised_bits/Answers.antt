@@ -3,7 +3,8 @@ use Rattle.std.proofs.lemmas.Int.{ints, to_z_pos}
 use Rattle.std.proofs.lemmas.Nat.{le_or_l, le_or_r}
 use mir.Syntax.{w64, w128}
 use Rattle.set_rules.proofs.Greatest.{greatest_more}
-use Rattle.row_drop.proofs.Plain.{back64, raised-small}
+use Rattle.fixed_mat.proofs.Bits64.{back64}
+use Rattle.row_drop.proofs.Plain.{raised-small}
 use Rattle.row_drop.proofs.shrink.raised_bits.Goals as goal
 
 pub loop-entry-preserved : goal.loop-entry-preserved
