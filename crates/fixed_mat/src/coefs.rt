@@ -1,10 +1,16 @@
 //! The coefficients of a row, whose magnitudes add up to a bounded sum.
 
-ghost use Rattle.std.specs.Prelude.{◌≡◌, ℕ, ◌+◌, ◌<◌, ◌≤◌, ◌↔◌, [], ◌∷◌, ◌++◌, length, unsigned_abs, IsErr, IfErr, OnOk, OnErr};
+ghost use Rattle.std.specs.Prelude.{◌≡◌, ℕ, ◌+◌, ◌<◌, ◌≤◌, ◌↔◌, [], ◌∷◌, ◌++◌, length, unsigned_abs, pos, ◌*ℤ◌, IsErr, IfErr, OnOk, OnErr};
 ghost use Rattle.std.specs.List.{sum_by};
-ghost use Rattle.set_rules.specs.Columns.{at};
+ghost use Rattle.set_rules.specs.Sum.{total};
+ghost use Rattle.set_rules.specs.Columns.{at, entry, column_entry, tabulate};
+ghost use Rattle.set_rules.specs.Round.{rnd as rnd_of, residue as residue_of};
+ghost use Rattle.fixed_mat.specs.Narrow.{IsNarrow};
 
-use crate::mat::OverLimit;
+use crate::cols::Cols;
+use crate::mat::{Coef, Mat, OverLimit};
+use crate::products::narrow_row_times_column;
+use crate::round::narrow_rounding;
 use arrayvec::ArrayVec;
 use std::marker::Model;
 
@@ -88,6 +94,58 @@ impl Coefs {
         self.sum = sum;
         Ok(())
     }
+
+    /// Puts row `r` of `m` times each column, rounded, in the place of all coefficients, where the products fit 64 bits; gives the sum of what the rounding leaves.
+    pub fn fill_narrow<const R: usize, const N: usize>(
+        &mut self,
+        m: &Mat<R, N, Coef>,
+        r: usize,
+        cols: &Cols<N>,
+    ) -> u64
+        requires row { r < R }
+        requires narrow { (t : ℕ) → t < length cols.now → IsNarrow N m.now r cols.now t }
+        ensures coefficients { self.new ≡ tabulate (length cols.now) (λ t. rnd_of (total N (λ l. entry N m.now r l *ℤ column_entry cols.now l t))) }
+        ensures left { pos result ≡ total (length cols.now) (λ t. residue_of (total N (λ l. entry N m.now r l *ℤ column_entry cols.now l t))) }
+        ensures little { result ≤ 64_000_000_000 }
+    {
+        let sums = push_products(m, r, cols, &mut self.items);
+        self.sum = u128::from(sums.size);
+        sums.left
+    }
+}
+
+/// Over the rounded products of a row with all columns: the sum of their magnitudes, and of what the rounding leaves.
+#[derive(Drop)]
+struct NarrowSums {
+    size: u64,
+    left: u64,
+}
+
+/// Puts the rounded products of row `r` of `m` with each column in the place of all items.
+fn push_products<const R: usize, const N: usize>(
+    m: &Mat<R, N, Coef>,
+    r: usize,
+    cols: &Cols<N>,
+    items: &mut ArrayVec<i128, 128>,
+) -> NarrowSums
+    requires row { r < R }
+    requires narrow { (t : ℕ) → t < length cols.now → IsNarrow N m.now r cols.now t }
+    ensures items { items.new.items ≡ tabulate (length cols.now) (λ t. rnd_of (total N (λ l. entry N m.now r l *ℤ column_entry cols.now l t))) }
+    ensures few { length items.new.items ≤ 128 }
+    ensures size { result.size ≡ sum_by unsigned_abs items.new.items }
+    ensures left { pos result.left ≡ total (length cols.now) (λ t. residue_of (total N (λ l. entry N m.now r l *ℤ column_entry cols.now l t))) }
+    ensures little { result.left ≤ 64_000_000_000 }
+{
+    items.clear();
+    let mut size: u64 = 0;
+    let mut left: u64 = 0;
+    for t in 0..cols.len() {
+        let product = narrow_rounding(narrow_row_times_column(m, r, cols, t));
+        items.push(i128::from(product.nearest));
+        size += product.nearest.unsigned_abs();
+        left += product.residue;
+    }
+    NarrowSums { size, left }
 }
 
 impl Default for Coefs {
