@@ -16,7 +16,7 @@ use crate::ahead::FirstReading;
 use crate::inputs::through;
 use fixed_mat::{Coefs, Reading};
 use plant_model::{Plant, Sample};
-use row_drop::gain;
+use row_drop::gain_within;
 use zono_set::Zono;
 
 /// The least output whose reading misses its interval.
@@ -137,7 +137,7 @@ fn take_row<const N: usize>(set: &mut Zono<N>, row: &Coefs, right: i128)
     ensures value { set.new ≡ take_row_of N (record { coefficients = row.now; right = right }) set.old }
     ensures room { length set.new.columns ≤ 64 }
 {
-    let gains = gain(set.cols(), row);
+    let gains = gain_within(set.cols(), row, set.greatest_radius());
     set.substitute(row, right, &gains);
     set.reduce(48);
 }

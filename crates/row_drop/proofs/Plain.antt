@@ -1,7 +1,6 @@
 -- Columns and rows that need no shrinking, and their products in 64 bits.
-use Rattle.std.proofs.Common.{◌≡◌, ℕ, ◌+◌, ◌*◌, ◌/◌, ◌%◌, ◌^◌, ◌<◌, ◌≤◌, ◌⊎◌, max, List, [], ◌∷◌, length, map, take, ℤ, pos, negsuc, unsigned_abs, to_z, of_z, ◌+ℤ◌, ◌*ℤ◌, refl, sym, ap, ◌∙◌, arith, le_refl, mul-le-mul, mod-eq_of_lt}
+use Rattle.std.proofs.Common.{◌≡◌, ℕ, suc, ◌+◌, ◌*◌, ◌/◌, ◌%◌, ◌^◌, ◌<◌, ◌≤◌, ◌⊎◌, max, List, [], ◌∷◌, length, map, take, ℤ, pos, negsuc, unsigned_abs, to_z, of_z, ◌+ℤ◌, ◌*ℤ◌, refl, sym, ap, ◌∙◌, arith, le_refl, mul-le-mul, mod-eq_of_lt}
 use Rattle.std.proofs.lemmas.Int.{ints, unsigned_abs-mul, to_z_pos}
-use Rattle.std.proofs.Math.Pow.{pow_mono}
 use Rattle.std.proofs.lemmas.List.Sums.{sum_by-cons, sum_by_more, sum_by-take-le}
 use Rattle.std.specs.List.{sum_by}
 use Rattle.std.proofs.lemmas.List.FromFn.{length-map-range_with_len}
@@ -14,6 +13,7 @@ use Rattle.set_rules.specs.Reduce.{greatest}
 use Rattle.set_rules.specs.Gain.{shrunk_value, gain_of, gain_shift, greatest_entry, gain_at, gain}
 use Rattle.set_rules.proofs.Sums.{total-same}
 use Rattle.fixed_mat.proofs.Columns.{tabulate-same}
+use Rattle.row_drop.specs.Room.{room}
 use Rattle.row_drop.proofs.Shrinking.{least_is, gain-is}
 
 whole : (v : ℤ) → shrunk_value 0 v ≡ v
@@ -89,20 +89,32 @@ raised-small x limit bits small high is low =
     let back = ap (to_z w64) is ∙ back64 (x +ℤ pos limit) (omega (arith, ints)) in
     omega (arith, ints)
 
--- a power of two that is no greater than what there is room for
-module _ (k sum : ℕ) (few : k ≤ 39) (room : 2 ^ k ≤ 9_000_000_000_000_000_000 / (sum + 1)) where
-  power-small : 2 ^ k ≤ 2 ^ 39
-  power-small = pow_mono few
+-- no entry is above a bound that none at its place is above
+pub greatest-within : (xs : List ℤ) (most : ℕ) → ((i : ℕ) → i < length xs → unsigned_abs (at xs i) ≤ most) → greatest xs ≤ most
+greatest-within [] most h = omega arith
+greatest-within (x ∷ xs) most h =
+    let first = h 0 (omega arith) in
+    let rest = greatest-within xs most (λ i l. h (suc i) (omega arith)) in
+    omega arith
 
-  pub limit-is : 1 * 2 ^ k % 18_446_744_073_709_551_616 ≡ 2 ^ k
-  limit-is = let p = power-small in ap (λ n. n % 18_446_744_073_709_551_616) (omega arith) ∙ mod-eq_of_lt (omega arith)
+-- what there is room for
+pub room-small : (sum : ℕ) → room sum ≤ 2 ^ 39
+unfolding room
+room-small sum = omega arith
 
-  pub limit-high : 1 * 2 ^ k % 18_446_744_073_709_551_616 ≤ 2 ^ 39
-  limit-high = let is = limit-is in let p = power-small in omega arith
+pub room-product : (sum : ℕ) → room sum * sum ≤ 9_000_000_000_000_000_000
+unfolding room
+room-product sum =
+    let small : room sum ≤ 9_000_000_000_000_000_000 / (sum + 1) = omega arith in
+    by (room sum) (9_000_000_000_000_000_000 / (sum + 1)) sum small (div-mul-le_self 9_000_000_000_000_000_000 (sum + 1))
+  where
+    by : (most quotient sum : ℕ) → most ≤ quotient → quotient * (sum + 1) ≤ 9_000_000_000_000_000_000 → most * sum ≤ 9_000_000_000_000_000_000
+    by most quotient sum h whole =
+        let less : most * (sum + 1) ≤ quotient * (sum + 1) = mul-le-mul h (le_refl (sum + 1)) in
+        omega arith
 
-  pub limit-product : 1 * 2 ^ k % 18_446_744_073_709_551_616 * sum ≤ 9_000_000_000_000_000_000
-  limit-product =
-      let less : 2 ^ k * (sum + 1) ≤ 9_000_000_000_000_000_000 / (sum + 1) * (sum + 1) = mul-le-mul room (le_refl (sum + 1)) in
-      let whole = div-mul-le_self 9_000_000_000_000_000_000 (sum + 1) in
-      let same = ap (λ n. n * sum) limit-is in
-      omega arith
+-- a power of two that there is room for
+pub power-within : (k room : ℕ) → 2 ^ k ≤ room → room ≤ 2 ^ 39 → 1 * 2 ^ k % 18_446_744_073_709_551_616 ≤ room
+power-within k room h high =
+    let is = ap (λ n. n % 18_446_744_073_709_551_616) (let one : 1 * 2 ^ k ≡ 2 ^ k = omega arith in one) ∙ mod-eq_of_lt (omega arith) in
+    omega arith

@@ -1,13 +1,14 @@
 //! The gain of each state.
 
-ghost use Rattle.std.specs.Prelude.{◌≡◌, ◌+◌, ◌*◌, ◌<◌, ◌≤◌, ◌^◌, ◌/◌, ◌⊎◌, length, map, pos, ◌*ℤ◌, int_div, unsigned_abs};
+ghost use Rattle.std.specs.Prelude.{◌≡◌, ℕ, ◌+◌, ◌*◌, ◌<◌, ◌≤◌, ◌^◌, ◌/◌, ◌⊎◌, length, map, pos, ◌*ℤ◌, int_div, unsigned_abs};
 ghost use Rattle.std.specs.List.{All, sum_by};
 ghost use Rattle.set_rules.specs.Sum.{total};
 ghost use Rattle.set_rules.specs.Columns.{at, column_entry, tabulate};
 ghost use Rattle.set_rules.specs.Gain.{gain as gain_list, shrunk_value, greatest_entry, gain_of, clipped_gain};
+ghost use Rattle.row_drop.specs.Room.{room};
 
 use crate::products::{narrow_products, plain_square, product_of, square_of, wide_product};
-use crate::shrink::{all_within, limit_for, shift_of, shrunk_row};
+use crate::shrink::{all_within, greatest_in_cols, has_room, room_for, shift_of, shrunk_row};
 use arrayvec::ArrayVec;
 use fixed_mat::{Coef, Coefs, Cols, Mat};
 
@@ -16,22 +17,32 @@ pub fn gain<const N: usize>(cols: &Cols<N>, a: &Coefs) -> Mat<N, 1, Coef>
     requires { (length a.now ≡ length cols.now) ⊎ (length a.now ≡ length cols.now + 1) }
     ensures { result ≡ gain_list N cols.now a.now }
 {
-    let gains = gains_of(cols, a);
+    gain_within(cols, a, greatest_in_cols(cols))
+}
+
+/// The same, where no magnitude in the columns is above `bound`: a small one saves going over the columns first.
+pub fn gain_within<const N: usize>(cols: &Cols<N>, a: &Coefs, bound: u64) -> Mat<N, 1, Coef>
+    requires long { (length a.now ≡ length cols.now) ⊎ (length a.now ≡ length cols.now + 1) }
+    requires entries { (i t : ℕ) → i < N → unsigned_abs (column_entry cols.now i t) ≤ bound }
+    ensures { result ≡ gain_list N cols.now a.now }
+{
+    let gains = gains_of(cols, a, bound);
     let mut gain = Mat::zero();
     gain.replace(&gains);
     gain
 }
 
 /// The gains one after another; where bounds show that no number is `2 ^ 40` or above, nothing is shrunk.
-fn gains_of<const N: usize>(cols: &Cols<N>, a: &Coefs) -> ArrayVec<i128, 8>
-    requires { (length a.now ≡ length cols.now) ⊎ (length a.now ≡ length cols.now + 1) }
+fn gains_of<const N: usize>(cols: &Cols<N>, a: &Coefs, bound: u64) -> ArrayVec<i128, 8>
+    requires long { (length a.now ≡ length cols.now) ⊎ (length a.now ≡ length cols.now + 1) }
+    requires entries { (i t : ℕ) → i < N → unsigned_abs (column_entry cols.now i t) ≤ bound }
     ensures value { result.items ≡ gain_list N cols.now a.now }
     ensures within { All (λ z. unsigned_abs z ≤ 1_000_000_000_000) result.items }
     ensures low { 1 ≤ N }
     ensures high { N ≤ 8 }
 {
     if a.sum() < 1_099_511_627_776 {
-        if all_within(cols, limit_for(a.sum() as u64)) {
+        if has_room(cols, bound, room_for(a.sum() as u64)) {
             return narrow_ratios(cols, a);
         }
         if all_within(cols, 549_755_813_888) {
@@ -44,9 +55,8 @@ fn gains_of<const N: usize>(cols: &Cols<N>, a: &Coefs) -> ArrayVec<i128, 8>
 /// The gain of each state where nothing has to be shrunk and the products fit 64 bits.
 fn narrow_ratios<const N: usize>(cols: &Cols<N>, a: &Coefs) -> ArrayVec<i128, 8>
     requires long { (length a.now ≡ length cols.now) ⊎ (length a.now ≡ length cols.now + 1) }
-    requires entries { greatest_entry cols.now < 2 ^ 40 }
     requires row { sum_by unsigned_abs a.now < 2 ^ 40 }
-    requires products { greatest_entry cols.now * sum_by unsigned_abs a.now ≤ 9_000_000_000_000_000_000 }
+    requires entries { (i t : ℕ) → i < N → unsigned_abs (column_entry cols.now i t) ≤ room (sum_by unsigned_abs a.now) }
     ensures value { result.items ≡ gain_list N cols.now a.now }
     ensures within { All (λ z. unsigned_abs z ≤ 1_000_000_000_000) result.items }
     ensures low { 1 ≤ N }

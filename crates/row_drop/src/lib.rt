@@ -5,7 +5,7 @@ mod gains;
 mod products;
 mod shrink;
 
-pub use gains::gain;
+pub use gains::{gain, gain_within};
 
 #[cfg(test)]
 mod tests;

@@ -5,12 +5,40 @@ ghost use Rattle.std.specs.List.{All, sum_by};
 ghost use Rattle.set_rules.specs.Sum.{total};
 ghost use Rattle.set_rules.specs.Columns.{at, column_entry};
 ghost use Rattle.set_rules.specs.Gain.{shrunk_value, greatest_entry};
+ghost use Rattle.row_drop.specs.Room.{room};
 
 use crate::shrink::shrunk;
 use fixed_mat::{Coefs, Cols};
 
-/// The row times itself.
+/// The row times itself; in 64 bits where the square of its sum fits these.
 pub fn plain_square(a: &Coefs) -> i128
+    requires { sum_by unsigned_abs a.now < 2 ^ 40 }
+    ensures value { result ≡ total (length a.now) (λ t. at a.now t *ℤ at a.now t) }
+    ensures within { unsigned_abs result ≤ 128 * 2 ^ 80 }
+{
+    if a.sum() <= 3_000_000_000 {
+        i128::from(narrow_square(a))
+    } else {
+        wide_square(a)
+    }
+}
+
+/// The row times itself, in 64 bits.
+fn narrow_square(a: &Coefs) -> i64
+    requires { sum_by unsigned_abs a.now ≤ 3_000_000_000 }
+    ensures value { result ≡ total (length a.now) (λ t. at a.now t *ℤ at a.now t) }
+    ensures within { unsigned_abs result ≤ 9_000_000_000_000_000_000 }
+{
+    let mut sum = 0;
+    for t in 0..a.len() {
+        let v = a.at(t) as i64;
+        sum += v * v;
+    }
+    sum
+}
+
+/// The row times itself, in 128 bits.
+fn wide_square(a: &Coefs) -> i128
     requires { sum_by unsigned_abs a.now < 2 ^ 40 }
     ensures value { result ≡ total (length a.now) (λ t. at a.now t *ℤ at a.now t) }
     ensures within { unsigned_abs result ≤ 128 * 2 ^ 80 }
@@ -23,12 +51,13 @@ pub fn plain_square(a: &Coefs) -> i128
     sum
 }
 
-/// The row times each state of the columns, in 64 bits.
+/// The row times each state of the columns, in 64 bits; going over the columns shows that they have no other entries.
 pub fn narrow_products<const N: usize>(cols: &Cols<N>, a: &Coefs) -> [i64; 8]
     requires reaches { length cols.now ≤ length a.now }
     requires numbers { sum_by unsigned_abs a.now < 2 ^ 40 }
-    requires products { greatest_entry cols.now * sum_by unsigned_abs a.now ≤ 9_000_000_000_000_000_000 }
-    ensures { (i : ℕ) → i < N → at result i ≡ total (length cols.now) (λ t. column_entry cols.now i t *ℤ at a.now t) }
+    requires entries { (i t : ℕ) → i < N → unsigned_abs (column_entry cols.now i t) ≤ room (sum_by unsigned_abs a.now) }
+    ensures entries { greatest_entry cols.now ≤ room (sum_by unsigned_abs a.now) }
+    ensures products { (i : ℕ) → i < N → at result i ≡ total (length cols.now) (λ t. column_entry cols.now i t *ℤ at a.now t) }
 {
     let mut sums = [0; 8];
     for t in 0..cols.len() {

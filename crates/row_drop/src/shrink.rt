@@ -1,9 +1,11 @@
 //! Numbers brought below `2 ^ 40`, so that their products fit 128 bits.
 
-ghost use Rattle.std.specs.Prelude.{IsTrue, ◌≡◌, ◌*◌, ◌<◌, ◌≤◌, ◌^◌, ◌/◌, max, length, map, unsigned_abs};
+ghost use Rattle.std.specs.Prelude.{IsTrue, ℕ, ◌≡◌, ◌*◌, ◌<◌, ◌≤◌, ◌^◌, ◌/◌, max, length, map, unsigned_abs};
 ghost use Rattle.std.specs.List.{All};
 ghost use Rattle.set_rules.specs.Reduce.{greatest};
+ghost use Rattle.set_rules.specs.Columns.{column_entry};
 ghost use Rattle.set_rules.specs.Gain.{shift_below, shrunk_value, greatest_entry, gain_shift};
+ghost use Rattle.row_drop.specs.Room.{room as room_of};
 
 use arrayvec::ArrayVec;
 use fixed_mat::{Coefs, Cols};
@@ -33,14 +35,33 @@ fn raised_bits(column: &[i128], limit: u64) -> u64
     bits
 }
 
-/// The greatest power of two, at most `2 ^ 39`, whose product with a row of this sum surely fits 64 bits.
-pub fn limit_for(sum: u64) -> u64
+/// Numbers up to this need no shrinking, and their products with a row of this sum fit 64 bits.
+pub fn room_for(sum: u64) -> u64
     requires { sum < 2 ^ 40 }
+    ensures value { result ≡ room_of sum }
+    ensures some { 1 ≤ result }
     ensures high { result ≤ 2 ^ 39 }
-    ensures product { result * sum ≤ 9_000_000_000_000_000_000 }
 {
-    let room: u64 = 9_000_000_000_000_000_000 / (sum + 1);
-    1 << room.ilog2().min(39)
+    (9_000_000_000_000_000_000 / (sum + 1)).min(549_755_813_888)
+}
+
+/// Whether no magnitude in the columns, none of which is above `bound`, is above `room`; they are gone over where the bound leaves it open.
+pub fn has_room<const N: usize>(cols: &Cols<N>, bound: u64, room: u64) -> bool
+    requires entries { (i t : ℕ) → i < N → unsigned_abs (column_entry cols.now i t) ≤ bound }
+    requires some { 1 ≤ room }
+    requires high { room ≤ 2 ^ 39 }
+    ensures { IsTrue result → (i t : ℕ) → i < N → unsigned_abs (column_entry cols.now i t) ≤ room }
+{
+    bound <= room || all_within(cols, power_within(room))
+}
+
+/// The greatest power of two that is no greater than `room`.
+fn power_within(room: u64) -> u64
+    requires some { 1 ≤ room }
+    requires high { room ≤ 2 ^ 39 }
+    ensures { result ≤ room }
+{
+    1 << room.ilog2()
 }
 
 /// The least number of halvings that brings every magnitude in the columns and the row below `2 ^ 40`.
@@ -68,7 +89,7 @@ fn shift_below_limit(size: u128) -> u32
 }
 
 /// The greatest magnitude in the columns.
-fn greatest_in_cols<const N: usize>(cols: &Cols<N>) -> u64
+pub fn greatest_in_cols<const N: usize>(cols: &Cols<N>) -> u64
     ensures { result ≡ greatest_entry cols.now }
 {
     let mut most = 0;

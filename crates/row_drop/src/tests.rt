@@ -1,4 +1,4 @@
-use crate::gain;
+use crate::{gain, gain_within};
 use fixed_mat::{Coefs, Cols};
 use std::test::Fail;
 
@@ -80,5 +80,24 @@ fn wide_rows_are_taken_alike(rt: HostRuntime) -> Result<(), Fail> {
         assert!(rt; a.len() == 3);
         assert_eq!(rt; gain(&cols, &a).at(0, 0), taken);
     }
+    Ok(())
+}
+
+/// Whether a bound leaves room, leaves it open or is far off, the gain is 3/5: three times two of nine and one.
+#[test]
+fn every_bound_gives_the_same_gain(rt: HostRuntime) -> Result<(), Fail> {
+    let mut cols: Cols<1> = Cols::new();
+    cols.push_diagonal(0, 2 * ONE);
+    let mut a = Coefs::new();
+    a.push(3 * ONE)?;
+    a.push(-ONE)?;
+    assert!(rt; cols.len() == 1);
+    assert!(rt; a.len() == 2);
+    assert_eq!(rt; gain_within(&cols, &a, 2_000_000_000).at(0, 0), 600_000_000);
+    assert_eq!(rt; gain_within(&cols, &a, 3_000_000_000).at(0, 0), 600_000_000);
+    assert_eq!(rt;
+        gain_within(&cols, &a, 2_000_000_000_000).at(0, 0),
+        600_000_000
+    );
     Ok(())
 }

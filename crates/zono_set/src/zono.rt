@@ -7,10 +7,10 @@ mod substitute;
 
 ghost use Rattle.std.specs.Prelude.{◌≡◌, ℕ, ◌+◌, ◌<◌, ◌≤◌, length, ℤ, pos, ◌+ℤ◌, ◌≤ℤ◌, unsigned_abs, IfOk, IfErr, OnOk, OnErr};
 ghost use Rattle.set_rules.specs.Sum.{magnitude};
-ghost use Rattle.set_rules.specs.Columns.{at, row_magnitude, tabulate};
+ghost use Rattle.set_rules.specs.Columns.{at, column_entry, row_magnitude, tabulate};
 ghost use Rattle.set_rules.specs.Zono.{reach, InRange};
 ghost use Rattle.set_rules.specs.Box.{box, hull as hull_of};
-ghost use Rattle.set_rules.specs.Reduce.{reduce_set};
+ghost use Rattle.set_rules.specs.Reduce.{greatest, reduce_set};
 ghost use Rattle.set_rules.specs.Image.{IsFirstPast};
 ghost use Rattle.zono_set.specs.Holds.{HoldsBox, HoldsState, HoldsSet};
 
@@ -125,6 +125,20 @@ impl<const N: usize> Zono<N> {
         ensures within { unsigned_abs result ≤ 1_000_000_000_000_000_000 }
     {
         self.radii.at(i, 0)
+    }
+
+    /// The greatest radius of all states. No entry of the columns is above it.
+    pub fn greatest_radius(&self) -> u64
+        ensures value { result ≡ greatest (tabulate N (row_magnitude self.now.columns)) }
+        ensures entries { (i t : ℕ) → i < N → unsigned_abs (column_entry self.now.columns i t) ≤ result }
+        ensures within { result ≤ 1_000_000_000_000_000_000 }
+    {
+        let _ = self.cols.len();
+        let mut greatest = 0;
+        for i in 0..N {
+            greatest = (self.radius(i) as u64).max(greatest);
+        }
+        greatest
     }
 
     /// Puts other columns in the place of all.

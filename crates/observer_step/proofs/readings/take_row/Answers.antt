@@ -1,13 +1,22 @@
 use Rattle.std.proofs.Common.{◌+◌, ◌≤◌, length, unsigned_abs, inr, sym, ap, ◌∙◌, arith, subst}
+use Rattle.set_rules.specs.Columns.{column_entry}
 use Rattle.set_rules.specs.Zono.{Zono}
 use Rattle.set_rules.proofs.ReductionHolds.{reduction-fits}
 use Rattle.fixed_mat.proofs.Bits.{back}
 use Rattle.observer_step.proofs.Taken.{row-taken}
 use Rattle.observer_step.proofs.readings.take_row.Goals as goal
 
-pub gain-gains-requires : goal.gain-gains-requires
-gain-gains-requires g c =
-    (omega arith, (omega arith, inr (c.requires.columns ∙ ap (λ columns. length columns + 1) (sym c.cols.ensures.value))))
+pub gain_within-gains-requires : goal.gain_within-gains-requires
+gain_within-gains-requires g c = (
+  omega arith,
+  (
+    omega arith,
+    (
+      inr (c.requires.columns ∙ ap (λ columns. length columns + 1) (sym c.cols.ensures.value)),
+      λ i t h. subst (λ columns. unsigned_abs (column_entry columns i t) ≤ c.greatest_radius.result) (sym c.cols.ensures.value) (c.greatest_radius.ensures.entries i t h),
+    ),
+  ),
+)
 
 pub substitute-requires : goal.substitute-requires
 substitute-requires g c =
@@ -21,8 +30,8 @@ reduce-requires g c = (omega arith, (let few = c.requires.states in omega arith,
 
 pub returns-clause-value : goal.returns-clause-value
 returns-clause-value g c =
-    row-taken g.row.N (record { coefficients = c.args.row.now; right = c.args.right }) c.args.set.now _ c.cols.result.now c.gain-gains.result c.substitute.new.self c.reduce.new.self
-    (back c.args.right (let h = c.requires.right in omega arith)) c.cols.ensures.value c.gain-gains.ensures c.substitute.ensures.value c.reduce.ensures.value
+    row-taken g.row.N (record { coefficients = c.args.row.now; right = c.args.right }) c.args.set.now _ c.cols.result.now c.gain_within-gains.result c.substitute.new.self c.reduce.new.self
+    (back c.args.right (let h = c.requires.right in omega arith)) c.cols.ensures.value c.gain_within-gains.ensures c.substitute.ensures.value c.reduce.ensures.value
 
 pub returns-clause-room : goal.returns-clause-room
 returns-clause-room g c =

@@ -1,12 +1,8 @@
-use Rattle.std.proofs.Common.{◌≤◌, length, sym, ap, ◌∙◌, arith, subst, unsigned_abs}
-use Rattle.std.specs.List.{All}
-use Rattle.row_drop.proofs.Plain.{gain-long}
+use Rattle.std.proofs.Common.{◌≤◌, unsigned_abs, arith, sym, subst}
+use Rattle.set_rules.specs.Columns.{column_entry}
+use Rattle.set_rules.proofs.Greatest.{greatest_entry-at}
 use Rattle.row_drop.proofs.gains.gain.Goals as goal
 
-pub replace-requires : goal.replace-requires
-replace-requires g c =
-    let long = ap length (c.deref.ensures.0 ∙ c.gains_of-gains.ensures.value) ∙ gain-long g.row.N c.args.cols.now c.args.a.now in
-    (omega arith, (omega arith, subst (All (λ z. unsigned_abs z ≤ 1_000_000_000_000)) (sym c.deref.ensures.0) c.gains_of-gains.ensures.within))
-
-pub returns : goal.returns
-returns g c = c.replace.ensures ∙ c.deref.ensures.0 ∙ c.gains_of-gains.ensures.value
+pub gain_within-requires : goal.gain_within-requires
+gain_within-requires g c =
+    (omega arith, (omega arith, (c.requires, λ i t _. subst (λ most. unsigned_abs (column_entry c.args.cols.now i t) ≤ most) (sym c.greatest_in_cols.ensures) (greatest_entry-at c.args.cols.now i t))))

@@ -6,7 +6,7 @@ use Rattle.set_rules.specs.Columns.{at}
 use Rattle.set_rules.proofs.Sums.{total-zero}
 use Rattle.fixed_mat.proofs.Bits.{back, sum_on, next_sum}
 use Rattle.fixed_mat.proofs.Bits64.{back64}
-use Rattle.row_drop.proofs.products.plain_square.Goals as goal
+use Rattle.row_drop.proofs.products.wide_square.Goals as goal
 
 pub loop-t-init : goal.loop-t-init
 loop-t-init c = record { value = sym (total-zero _); within = omega arith }
