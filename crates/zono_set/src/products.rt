@@ -4,7 +4,7 @@ ghost use Rattle.std.specs.Prelude.{IsTrue, ◌≡◌, ℕ, ◌<◌, ◌≤◌, 
 ghost use Rattle.std.specs.List.{sum_by};
 ghost use Rattle.set_rules.specs.Sum.{total, magnitude};
 ghost use Rattle.set_rules.specs.Columns.{at, entry, column_entry, row_magnitude};
-ghost use Rattle.set_rules.specs.Round.{rnd as rnd_of, residue as residue_of};
+ghost use Rattle.set_rules.specs.Round.{rnd as rnd_of, residue as residue_of, ceil_s as ceil_of};
 ghost use Rattle.fixed_mat.specs.Narrow.{IsNarrow};
 ghost use Rattle.zono_set.specs.Narrow.{HasNarrowRow};
 
@@ -101,6 +101,15 @@ pub fn row_sums<const R: usize, const N: usize>(
         left += product.residue;
     }
     RowSums { size, left }
+}
+
+/// `ceil_s` of what the rounding leaves of some numbers, in 64 bits.
+pub fn narrow_ceil(left: u64) -> i128
+    requires { left ≤ 2 * 10 ^ 12 }
+    ensures value { result ≡ ceil_of (pos left) }
+    ensures within { unsigned_abs result ≤ 10 ^ 12 }
+{
+    i128::from((left + 999_999_999) / 1_000_000_000)
 }
 
 /// A gain times a number of the row, rounded.
