@@ -53,10 +53,29 @@ pub fn rounded_column<const R: usize, const N: usize>(
 {
     let _ = cols.len();
     if narrow {
-        widened(narrow_rounding(narrow_row_times_column(a, r, cols, t)))
+        widened(narrow_rounded_column(a, r, cols, t))
     } else {
         rounded(row_times_column(a, r, cols, t))
     }
+}
+
+/// The same in 64 bits.
+#[inline(always)]
+fn narrow_rounded_column<const R: usize, const N: usize>(
+    a: &Mat<R, N, Coef>,
+    r: usize,
+    cols: &Cols<N>,
+    t: usize,
+) -> NarrowRounding
+    requires row { r < R }
+    requires column { t < length cols.now }
+    requires narrow { IsNarrow N a.now r cols.now t }
+    ensures nearest { result.nearest ≡ rnd_of (total N (λ l. entry N a.now r l *ℤ column_entry cols.now l t)) }
+    ensures residue { pos result.residue ≡ residue_of (total N (λ l. entry N a.now r l *ℤ column_entry cols.now l t)) }
+    ensures within { unsigned_abs result.nearest ≤ 9_000_000_001 }
+    ensures half { result.residue ≤ 500_000_000 }
+{
+    narrow_rounding(narrow_row_times_column(a, r, cols, t))
 }
 
 /// A rounding of 64 bits in 128.
@@ -93,10 +112,59 @@ pub fn row_sums<const R: usize, const N: usize>(
     ensures left_low { pos 0 ≤ℤ result.left }
     ensures left_high { result.left ≤ℤ pos (10 ^ 12) }
 {
+    if narrow {
+        narrow_row_sums(a, r, cols)
+    } else {
+        wide_row_sums(a, r, cols)
+    }
+}
+
+/// The same in 64 bits.
+fn narrow_row_sums<const R: usize, const N: usize>(
+    a: &Mat<R, N, Coef>,
+    r: usize,
+    cols: &Cols<N>,
+) -> RowSums
+    requires row { r < R }
+    requires narrow { HasNarrowRow N a.now r cols.now }
+    ensures size { result.size ≡ total (length cols.now) (λ t. magnitude (rnd_of (total N (λ l. entry N a.now r l *ℤ column_entry cols.now l t)))) }
+    ensures left { result.left ≡ total (length cols.now) (λ t. residue_of (total N (λ l. entry N a.now r l *ℤ column_entry cols.now l t))) }
+    ensures size_low { pos 0 ≤ℤ result.size }
+    ensures size_high { result.size ≤ℤ pos (10 ^ 25) }
+    ensures left_low { pos 0 ≤ℤ result.left }
+    ensures left_high { result.left ≤ℤ pos (10 ^ 12) }
+{
+    let mut size: u64 = 0;
+    let mut left: u64 = 0;
+    for t in 0..cols.len() {
+        let product = narrow_rounded_column(a, r, cols, t);
+        size += product.nearest.unsigned_abs();
+        left += product.residue;
+    }
+    RowSums {
+        size: i128::from(size),
+        left: i128::from(left),
+    }
+}
+
+/// The same in 128 bits.
+fn wide_row_sums<const R: usize, const N: usize>(
+    a: &Mat<R, N, Coef>,
+    r: usize,
+    cols: &Cols<N>,
+) -> RowSums
+    requires row { r < R }
+    ensures size { result.size ≡ total (length cols.now) (λ t. magnitude (rnd_of (total N (λ l. entry N a.now r l *ℤ column_entry cols.now l t)))) }
+    ensures left { result.left ≡ total (length cols.now) (λ t. residue_of (total N (λ l. entry N a.now r l *ℤ column_entry cols.now l t))) }
+    ensures size_low { pos 0 ≤ℤ result.size }
+    ensures size_high { result.size ≤ℤ pos (10 ^ 25) }
+    ensures left_low { pos 0 ≤ℤ result.left }
+    ensures left_high { result.left ≤ℤ pos (10 ^ 12) }
+{
     let mut size = 0;
     let mut left = 0;
     for t in 0..cols.len() {
-        let product = rounded_column(a, r, cols, t, narrow);
+        let product = rounded_column(a, r, cols, t, false);
         size += product.nearest.abs();
         left += product.residue;
     }

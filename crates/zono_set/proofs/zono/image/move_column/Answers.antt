@@ -1,5 +1,4 @@
-use Rattle.std.proofs.Common.{◌≡◌, ℕ, ◌+◌, ◌-◌, ◌<◌, ◌≤◌, ◌≢◌, List, ◌≤ℤ◌, length, length-set, take, set, get_or, get_or-set_same, get_or-set_other, ℤ, pos, ◌+ℤ◌, ◌*ℤ◌, unsigned_abs, to_z, of_z, ap, ◌∙◌, arith, below_more}
-use Rattle.std.proofs.lemmas.Int.{ints}
+use Rattle.std.proofs.Common.{◌≡◌, ℕ, ◌+◌, ◌-◌, ◌<◌, ◌≤◌, ◌≢◌, List, length, length-set, take, set, get_or, get_or-set_same, get_or-set_other, ℤ, pos, ◌+ℤ◌, ◌*ℤ◌, unsigned_abs, to_z, of_z, ap, ◌∙◌, arith, below_more}
 use Rattle.std.proofs.lemmas.List.{length-take-le, get_or-take}
 use Rattle.std.proofs.lemmas.List.FromFn.{fill_by_all}
 use mir.Syntax.{w128}
@@ -8,7 +7,7 @@ use Rattle.set_rules.specs.Columns.{at, entry, column_entry, tabulate}
 use Rattle.set_rules.specs.Round.{rnd, residue}
 use Rattle.set_rules.specs.Zono.{range}
 use Rattle.fixed_mat.proofs.Bits.{back}
-use Rattle.zono_set.proofs.Steps.{filled-all}
+use Rattle.zono_set.proofs.Steps.{left_back, filled-all}
 use Rattle.zono_set.proofs.zono.image.move_column.Given.{Over}
 use Rattle.zono_set.proofs.zono.image.move_column.Goals as goal
 use Rattle.zono_set.proofs.zono.image.move_column.Goals.{After-unsigned_abs}
@@ -31,14 +30,7 @@ module _ (g : Over) (c : After-unsigned_abs g) where
       omega (arith, is, fits)
 
   left_is : pos (unsigned_abs (to_z w128 (of_z w128 c.rounded_column-state.result.residue))) ≡ residue exact
-  left_is =
-      let half = c.rounded_column-state.ensures.half in
-      let low = c.rounded_column-state.ensures.low in
-      let same = back c.rounded_column-state.result.residue (omega (arith, ints, half, low)) in
-      natural c.rounded_column-state.result.residue _ low same ∙ c.rounded_column-state.ensures.residue
-    where
-      natural : (r z : ℤ) → pos 0 ≤ℤ r → z ≡ r → pos (unsigned_abs z) ≡ r
-      natural r z low is = omega (arith, ints)
+  left_is = left_back c.rounded_column-state.result.residue c.rounded_column-state.ensures.low c.rounded_column-state.ensures.half ∙ c.rounded_column-state.ensures.residue
 
 pub overflow_cast-sizes : goal.overflow_cast-sizes
 overflow_cast-sizes g c = let h = size_small g c in record { fits = omega (arith, h) }
