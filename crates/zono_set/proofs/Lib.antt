@@ -4,4 +4,5 @@ pub mod Narrow
 pub mod Reaches
 pub mod Taken
 pub mod Kept
+pub mod Moved
 pub mod Ahead

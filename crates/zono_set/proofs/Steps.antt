@@ -43,6 +43,14 @@ difference_back x y h k =
 pub fold : (z v : ℤ) → z ≡ v → unsigned_abs v ≤ 10 ^ 37 → to_z w128 (of_z w128 z) ≡ v
 fold z v e h = ap (λ x. to_z w128 (of_z w128 x)) e ∙ back v h
 
+-- a number that is not negative is its magnitude
+pub natural : (r z : ℤ) → pos 0 ≤ℤ r → z ≡ r → pos (unsigned_abs z) ≡ r
+natural r z low is = omega (arith, ints)
+
+-- what the rounding leaves of one number, in 64 bits
+pub left_back : (r : ℤ) → pos 0 ≤ℤ r → r ≤ℤ pos 500_000_000 → pos (unsigned_abs (to_z w128 (of_z w128 r))) ≡ r
+left_back r low half = natural r (to_z w128 (of_z w128 r)) low (back r (omega (arith, ints)))
+
 -- the sum of a bound, in 128 bits
 module _ (bits : ℕ) (a : ℤ) (count : ℕ) (noise : ℤ) (hb : unsigned_abs (to_z w128 bits) ≤ 10 ^ 33) (ha : unsigned_abs a ≤ 10 ^ 33) (hc : count ≤ 128) (hn : unsigned_abs noise ≤ 10 ^ 20) where
   front : to_z w128 (of_z w128 (to_z w128 bits +ℤ to_z w128 (of_z w128 a))) ≡ to_z w128 bits +ℤ a

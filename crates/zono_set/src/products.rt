@@ -4,7 +4,7 @@ ghost use Rattle.std.specs.Prelude.{IsTrue, ◌≡◌, ℕ, ◌<◌, ◌≤◌, 
 ghost use Rattle.std.specs.List.{sum_by};
 ghost use Rattle.set_rules.specs.Sum.{total, magnitude};
 ghost use Rattle.set_rules.specs.Columns.{at, entry, column_entry, row_magnitude};
-ghost use Rattle.set_rules.specs.Round.{rnd as rnd_of, residue as residue_of};
+ghost use Rattle.set_rules.specs.Round.{rnd as rnd_of, residue as residue_of, ceil_s as ceil_of};
 ghost use Rattle.fixed_mat.specs.Narrow.{IsNarrow};
 ghost use Rattle.zono_set.specs.Narrow.{HasNarrowRow};
 
@@ -53,10 +53,29 @@ pub fn rounded_column<const R: usize, const N: usize>(
 {
     let _ = cols.len();
     if narrow {
-        widened(narrow_rounding(narrow_row_times_column(a, r, cols, t)))
+        widened(narrow_rounded_column(a, r, cols, t))
     } else {
         rounded(row_times_column(a, r, cols, t))
     }
+}
+
+/// The same in 64 bits.
+#[inline(always)]
+fn narrow_rounded_column<const R: usize, const N: usize>(
+    a: &Mat<R, N, Coef>,
+    r: usize,
+    cols: &Cols<N>,
+    t: usize,
+) -> NarrowRounding
+    requires row { r < R }
+    requires column { t < length cols.now }
+    requires narrow { IsNarrow N a.now r cols.now t }
+    ensures nearest { result.nearest ≡ rnd_of (total N (λ l. entry N a.now r l *ℤ column_entry cols.now l t)) }
+    ensures residue { pos result.residue ≡ residue_of (total N (λ l. entry N a.now r l *ℤ column_entry cols.now l t)) }
+    ensures within { unsigned_abs result.nearest ≤ 9_000_000_001 }
+    ensures half { result.residue ≤ 500_000_000 }
+{
+    narrow_rounding(narrow_row_times_column(a, r, cols, t))
 }
 
 /// A rounding of 64 bits in 128.
@@ -93,14 +112,72 @@ pub fn row_sums<const R: usize, const N: usize>(
     ensures left_low { pos 0 ≤ℤ result.left }
     ensures left_high { result.left ≤ℤ pos (10 ^ 12) }
 {
+    if narrow {
+        narrow_row_sums(a, r, cols)
+    } else {
+        wide_row_sums(a, r, cols)
+    }
+}
+
+/// The same in 64 bits.
+fn narrow_row_sums<const R: usize, const N: usize>(
+    a: &Mat<R, N, Coef>,
+    r: usize,
+    cols: &Cols<N>,
+) -> RowSums
+    requires row { r < R }
+    requires narrow { HasNarrowRow N a.now r cols.now }
+    ensures size { result.size ≡ total (length cols.now) (λ t. magnitude (rnd_of (total N (λ l. entry N a.now r l *ℤ column_entry cols.now l t)))) }
+    ensures left { result.left ≡ total (length cols.now) (λ t. residue_of (total N (λ l. entry N a.now r l *ℤ column_entry cols.now l t))) }
+    ensures size_low { pos 0 ≤ℤ result.size }
+    ensures size_high { result.size ≤ℤ pos (10 ^ 25) }
+    ensures left_low { pos 0 ≤ℤ result.left }
+    ensures left_high { result.left ≤ℤ pos (10 ^ 12) }
+{
+    let mut size: u64 = 0;
+    let mut left: u64 = 0;
+    for t in 0..cols.len() {
+        let product = narrow_rounded_column(a, r, cols, t);
+        size += product.nearest.unsigned_abs();
+        left += product.residue;
+    }
+    RowSums {
+        size: i128::from(size),
+        left: i128::from(left),
+    }
+}
+
+/// The same in 128 bits.
+fn wide_row_sums<const R: usize, const N: usize>(
+    a: &Mat<R, N, Coef>,
+    r: usize,
+    cols: &Cols<N>,
+) -> RowSums
+    requires row { r < R }
+    ensures size { result.size ≡ total (length cols.now) (λ t. magnitude (rnd_of (total N (λ l. entry N a.now r l *ℤ column_entry cols.now l t)))) }
+    ensures left { result.left ≡ total (length cols.now) (λ t. residue_of (total N (λ l. entry N a.now r l *ℤ column_entry cols.now l t))) }
+    ensures size_low { pos 0 ≤ℤ result.size }
+    ensures size_high { result.size ≤ℤ pos (10 ^ 25) }
+    ensures left_low { pos 0 ≤ℤ result.left }
+    ensures left_high { result.left ≤ℤ pos (10 ^ 12) }
+{
     let mut size = 0;
     let mut left = 0;
     for t in 0..cols.len() {
-        let product = rounded_column(a, r, cols, t, narrow);
+        let product = rounded_column(a, r, cols, t, false);
         size += product.nearest.abs();
         left += product.residue;
     }
     RowSums { size, left }
+}
+
+/// `ceil_s` of what the rounding leaves of some numbers, in 64 bits.
+pub fn narrow_ceil(left: u64) -> i128
+    requires { left ≤ 2 * 10 ^ 12 }
+    ensures value { result ≡ ceil_of (pos left) }
+    ensures within { unsigned_abs result ≤ 10 ^ 12 }
+{
+    i128::from((left + 999_999_999) / 1_000_000_000)
 }
 
 /// A gain times a number of the row, rounded.

@@ -1,6 +1,6 @@
 //! The image of a set under one step of a plant, in place.
 
-ghost use Rattle.std.specs.Prelude.{◌≡◌, ℕ, ◌+◌, ◌*◌, ◌<◌, ◌≤◌, ◌^◌, length, ◌++◌, ℤ, pos, ◌+ℤ◌, ◌*ℤ◌, ◌≤ℤ◌, unsigned_abs, IsTrue, IfErr, OnOk, OnErr, slice_set};
+ghost use Rattle.std.specs.Prelude.{◌≡◌, ℕ, ◌+◌, ◌*◌, ◌<◌, ◌≤◌, ◌^◌, length, ◌++◌, ℤ, pos, ◌+ℤ◌, ◌*ℤ◌, ◌≤ℤ◌, unsigned_abs, IsTrue, IfErr, OnOk, OnErr, slice_index_or, slice_set};
 ghost use Rattle.set_rules.specs.Sum.{total, magnitude};
 ghost use Rattle.set_rules.specs.Columns.{at, entry, column_entry, tabulate};
 ghost use Rattle.set_rules.specs.Round.{rnd as rnd_of, residue as residue_of, ceil_s as ceil_of};
@@ -11,8 +11,8 @@ ghost use Rattle.fixed_mat.specs.Narrow.{IsNarrow};
 ghost use Rattle.zono_set.specs.Bound.{reach_bound as reach_bound_of};
 ghost use Rattle.zono_set.specs.Narrow.{HasNarrowRow};
 
-use crate::products::{rounded_centre, rounded_column, row_sums};
-use crate::zono::{PastRange, Zono, magnitudes};
+use crate::products::{narrow_ceil, rounded_centre, rounded_column, row_sums};
+use crate::zono::{PastRange, Zono};
 use arrayvec::ArrayVec;
 use fixed_mat::{Coef, Cols, Mat, Range, Raw, ceil_s};
 
@@ -37,10 +37,12 @@ impl<const N: usize> Zono<N> {
         self.check_image(a, shift, e, w)?;
         let narrow = self.has_narrow_rows(a);
         let of_centre = move_centre(a, shift, &mut self.centre);
-        let of_columns = move_columns(a, &mut self.cols, narrow);
+        let moved = move_columns(a, &mut self.cols, narrow);
         push_noise(e, w, &mut self.cols);
-        push_slack(&of_centre, &of_columns, &mut self.cols);
-        self.radii.replace(&magnitudes(&self.cols));
+        let slack = slack_of(&of_centre, &moved.left);
+        push_slack(&slack, &mut self.cols);
+        let radii = radii_after(&moved.sizes, e, w, &slack);
+        self.radii.replace(&radii);
         Ok(())
     }
 
@@ -180,60 +182,74 @@ fn move_centre<const N: usize>(
     left
 }
 
-/// Moves the columns, in 64 bits where the products are `narrow`, and gives the sum of what the rounding leaves in each state. Kept out of line: so its loop has the registers for itself.
+/// What was added up for each state while the columns moved: the magnitudes, and what the rounding leaves.
+#[derive(Drop)]
+struct Moved {
+    sizes: [u64; 8],
+    left: [u64; 8],
+}
+
+/// Moves the columns, in 64 bits where the products are `narrow`. Kept out of line: so its loops have the registers for themselves.
 #[inline(never)]
-fn move_columns<const N: usize>(
-    a: &Mat<N, N, Coef>,
-    cols: &mut Cols<N>,
-    narrow: bool,
-) -> ArrayVec<i128, 8>
+fn move_columns<const N: usize>(a: &Mat<N, N, Coef>, cols: &mut Cols<N>, narrow: bool) -> Moved
     requires narrow { IsTrue narrow → (i : ℕ) → i < N → HasNarrowRow N a.now i cols.old }
-    requires fits { (i : ℕ) → i < N → (t : ℕ) → t < length cols.old → unsigned_abs (rnd_of (total N (λ l. entry N a.now i l *ℤ column_entry cols.old l t))) ≤ range }
+    requires fits { (i : ℕ) → i < N → total (length cols.old) (λ t. magnitude (rnd_of (total N (λ l. entry N a.now i l *ℤ column_entry cols.old l t)))) ≤ℤ pos range }
     ensures moved { cols.new ≡ tabulate (length cols.old) (λ t. tabulate N (λ i. rnd_of (total N (λ l. entry N a.now i l *ℤ column_entry cols.old l t)))) }
-    ensures left { result.items ≡ tabulate N (λ i. total (length cols.old) (λ t. residue_of (total N (λ l. entry N a.now i l *ℤ column_entry cols.old l t)))) }
+    ensures sizes { (i : ℕ) → i < N → pos (slice_index_or result.sizes i 0) ≡ total (length cols.old) (λ t. magnitude (rnd_of (total N (λ l. entry N a.now i l *ℤ column_entry cols.old l t)))) }
+    ensures left { (i : ℕ) → i < N → pos (slice_index_or result.left i 0) ≡ total (length cols.old) (λ t. residue_of (total N (λ l. entry N a.now i l *ℤ column_entry cols.old l t))) }
 {
-    let mut left = zeros::<N>(cols);
+    if narrow {
+        move_each(a, cols, true)
+    } else {
+        move_each(a, cols, false)
+    }
+}
+
+/// The same. Kept in line: so there is a loop for the narrow products alone.
+#[inline(always)]
+fn move_each<const N: usize>(a: &Mat<N, N, Coef>, cols: &mut Cols<N>, narrow: bool) -> Moved
+    requires narrow { IsTrue narrow → (i : ℕ) → i < N → HasNarrowRow N a.now i cols.old }
+    requires fits { (i : ℕ) → i < N → total (length cols.old) (λ t. magnitude (rnd_of (total N (λ l. entry N a.now i l *ℤ column_entry cols.old l t)))) ≤ℤ pos range }
+    ensures moved { cols.new ≡ tabulate (length cols.old) (λ t. tabulate N (λ i. rnd_of (total N (λ l. entry N a.now i l *ℤ column_entry cols.old l t)))) }
+    ensures sizes { (i : ℕ) → i < N → pos (slice_index_or result.sizes i 0) ≡ total (length cols.old) (λ t. magnitude (rnd_of (total N (λ l. entry N a.now i l *ℤ column_entry cols.old l t)))) }
+    ensures left { (i : ℕ) → i < N → pos (slice_index_or result.left i 0) ≡ total (length cols.old) (λ t. residue_of (total N (λ l. entry N a.now i l *ℤ column_entry cols.old l t))) }
+{
+    let mut sizes = [0; 8];
+    let mut left = [0; 8];
     for t in 0..cols.len() {
-        move_column(a, cols, t, narrow, &mut left);
+        move_column(a, cols, t, narrow, &mut sizes, &mut left);
     }
-    left
+    Moved { sizes, left }
 }
 
-/// A zero for each state.
-fn zeros<const N: usize>(cols: &Cols<N>) -> ArrayVec<i128, 8>
-    ensures { result.items ≡ tabulate N (λ i. pos 0) }
-{
-    let _ = cols.len();
-    let mut zeros = ArrayVec::new();
-    for _ in 0..N {
-        zeros.push(0);
-    }
-    zeros
-}
-
-/// Moves column `t`, in 64 bits where the products are `narrow`, and adds what the rounding leaves in each state to `left`.
+/// Moves column `t`, in 64 bits where the products are `narrow`, and adds the magnitudes to `sizes` and what the rounding leaves to `left`.
+#[inline(always)]
 fn move_column<const N: usize>(
     a: &Mat<N, N, Coef>,
     cols: &mut Cols<N>,
     t: usize,
     narrow: bool,
-    left: &mut [i128],
+    sizes: &mut [u64; 8],
+    left: &mut [u64; 8],
 )
     requires column { t < length cols.old }
     requires narrow { IsTrue narrow → (i : ℕ) → i < N → IsNarrow N a.now i cols.old t }
     requires fits { (i : ℕ) → i < N → unsigned_abs (rnd_of (total N (λ l. entry N a.now i l *ℤ column_entry cols.old l t))) ≤ range }
-    requires states { length left.old ≡ N }
-    requires little { (i : ℕ) → i < N → unsigned_abs (at left.old i) ≤ 10 ^ 12 }
+    requires sizes { (i : ℕ) → i < N → slice_index_or sizes.old i 0 ≤ range }
+    requires left { (i : ℕ) → i < N → slice_index_or left.old i 0 ≤ 10 ^ 12 }
     ensures moved { cols.new ≡ slice_set cols.old t (tabulate N (λ i. rnd_of (total N (λ l. entry N a.now i l *ℤ column_entry cols.old l t)))) }
-    ensures left { left.new ≡ tabulate N (λ i. at left.old i +ℤ residue_of (total N (λ l. entry N a.now i l *ℤ column_entry cols.old l t))) }
+    ensures sizes { (i : ℕ) → i < N → pos (slice_index_or sizes.new i 0) ≡ pos (slice_index_or sizes.old i 0) +ℤ magnitude (rnd_of (total N (λ l. entry N a.now i l *ℤ column_entry cols.old l t))) }
+    ensures left { (i : ℕ) → i < N → pos (slice_index_or left.new i 0) ≡ pos (slice_index_or left.old i 0) +ℤ residue_of (total N (λ l. entry N a.now i l *ℤ column_entry cols.old l t)) }
 {
-    let mut moved: ArrayVec<i128, 8> = ArrayVec::new();
-    for i in 0..left.len() {
+    let _ = cols.len();
+    let mut moved = [0_i128; 8];
+    for i in 0..N {
         let state = rounded_column(a, i, cols, t, narrow);
-        moved.push(state.nearest);
-        left[i] += state.residue;
+        moved[i] = state.nearest;
+        sizes[i] += state.nearest.unsigned_abs() as u64;
+        left[i] += state.residue as u64;
     }
-    cols.replace(t, &moved);
+    cols.replace(t, &moved[0..N]);
 }
 
 /// Appends the first `w` columns of `e`.
@@ -247,16 +263,49 @@ fn push_noise<const N: usize>(e: &Mat<N, 8, Range>, w: usize, cols: &mut Cols<N>
     }
 }
 
+/// What makes up for what the rounding leaves in each state.
+fn slack_of(of_centre: &[i128], of_columns: &[u64; 8]) -> ArrayVec<i128, 8>
+    requires states { length of_centre.now ≤ 8 }
+    requires centre { (i : ℕ) → i < length of_centre.now → (pos 0 ≤ℤ at of_centre.now i) × (at of_centre.now i ≤ℤ pos (10 ^ 12)) }
+    requires columns { (i : ℕ) → i < length of_centre.now → slice_index_or of_columns.now i 0 ≤ 10 ^ 12 }
+    ensures { result.items ≡ tabulate (length of_centre.now) (λ i. ceil_of (at of_centre.now i +ℤ pos (slice_index_or of_columns.now i 0))) }
+{
+    let mut slack = ArrayVec::new();
+    for i in 0..of_centre.len() {
+        slack.push(narrow_ceil(of_centre[i] as u64 + of_columns[i]));
+    }
+    slack
+}
+
 /// Appends the diagonal columns that make up for what the rounding leaves in each state.
-fn push_slack<const N: usize>(of_centre: &[i128], of_columns: &[i128], cols: &mut Cols<N>)
-    requires centre { length of_centre.now ≡ N }
-    requires columns { length of_columns.now ≡ N }
+fn push_slack<const N: usize>(slack: &[i128], cols: &mut Cols<N>)
+    requires states { length slack.now ≡ N }
     requires room { length cols.old + N ≤ 128 }
-    requires centre_left { (i : ℕ) → i < N → (pos 0 ≤ℤ at of_centre.now i) × (at of_centre.now i ≤ℤ pos (10 ^ 12)) }
-    requires columns_left { (i : ℕ) → i < N → (pos 0 ≤ℤ at of_columns.now i) × (at of_columns.now i ≤ℤ pos (10 ^ 12)) }
-    ensures { cols.new ≡ cols.old ++ diagonal_columns N (λ i. ceil_of (at of_centre.now i +ℤ at of_columns.now i)) }
+    requires within { (i : ℕ) → i < N → unsigned_abs (at slack.now i) ≤ range }
+    ensures { cols.new ≡ cols.old ++ diagonal_columns N (at slack.now) }
 {
     for i in 0..N {
-        cols.push_diagonal(i, ceil_s(of_centre[i] + of_columns[i]));
+        cols.push_diagonal(i, slack[i]);
     }
+}
+
+/// The radii of the image: what was added up of the moved columns, what the noise adds and what makes up for the rounding.
+fn radii_after<const N: usize>(
+    sizes: &[u64; 8],
+    e: &Mat<N, 8, Range>,
+    w: usize,
+    slack: &[i128],
+) -> ArrayVec<i128, 8>
+    requires dists { w ≤ 8 }
+    requires small { N ≤ 8 }
+    requires states { length slack.now ≡ N }
+    requires sizes { (i : ℕ) → i < N → slice_index_or sizes.now i 0 ≤ range }
+    requires within { (i : ℕ) → i < N → unsigned_abs (at slack.now i) ≤ range }
+    ensures { result.items ≡ tabulate N (λ i. pos (slice_index_or sizes.now i 0) +ℤ total w (λ t. magnitude (entry 8 e.now i t)) +ℤ at slack.now i) }
+{
+    let mut radii = ArrayVec::new();
+    for i in 0..N {
+        radii.push(i128::from(sizes[i]) + noise_reach(e, w, i) + slack[i]);
+    }
+    radii
 }

@@ -6,9 +6,9 @@ ghost use Rattle.set_rules.specs.Round.{rnd as rnd_of, residue as residue_of};
 ghost use Rattle.set_rules.specs.Strip.{raw_output, raw_coefficient, strip_row as strip_row_of, out_interval as out_interval_of};
 ghost use Rattle.zono_set.specs.Holds.{StripHolds, HoldsReadings};
 
-use crate::products::{rounded_centre, rounded_column, row_sums};
+use crate::products::{narrow_ceil, rounded_centre, rounded_column, row_sums};
 use crate::zono::Zono;
-use fixed_mat::{Coef, Coefs, Mat, Rounding, ceil_s};
+use fixed_mat::{Coef, Coefs, Mat, Rounding};
 
 /// A row on the symbols of a set: the coefficients, of which the last is the noise symbol's, and the right side, in nano-units.
 #[derive(Drop)]
@@ -57,13 +57,14 @@ impl<const N: usize> Zono<N> {
         let middle = self.output_middle(c_row, du);
         let narrow = self.has_narrow_row(c_row, 0);
         a.clear();
-        let mut left = 0;
+        let mut left: u64 = 0;
         for t in 0..self.cols.len() {
             let product = rounded_column(c_row, 0, &self.cols, t, narrow);
             a.push(product.nearest).unwrap();
-            left += product.residue;
+            left += product.residue as u64;
         }
-        a.push(f + ceil_s(middle.residue + left)).unwrap();
+        a.push(f + narrow_ceil(middle.residue as u64 + left))
+            .unwrap();
         y - middle.nearest
     }
 
@@ -80,7 +81,7 @@ impl<const N: usize> Zono<N> {
     {
         let middle = self.output_middle(c_row, du);
         let sums = row_sums(c_row, 0, &self.cols, self.has_narrow_row(c_row, 0));
-        let half = sums.size + f + ceil_s(middle.residue + sums.left);
+        let half = sums.size + f + narrow_ceil((middle.residue + sums.left) as u64);
         (middle.nearest - half, middle.nearest + half)
     }
 

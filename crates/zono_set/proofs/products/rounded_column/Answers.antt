@@ -1,14 +1,13 @@
 use Rattle.std.proofs.Common.{◌≡◌, ◌≤◌, ◌*ℤ◌, unsigned_abs, to_z, of_z, ap, ◌∙◌, arith}
-use mir.Syntax.{w64, w128}
+use mir.Syntax.{w128}
 use Rattle.set_rules.specs.Sum.{total}
 use Rattle.set_rules.specs.Columns.{entry, column_entry}
 use Rattle.fixed_mat.proofs.Bits.{back}
-use Rattle.fixed_mat.proofs.Bits64.{back64}
 use Rattle.set_rules.specs.Round.{rnd, residue}
 use Rattle.zono_set.proofs.Steps.{nearest_is, residue_is, nearest_small}
 use Rattle.zono_set.proofs.products.rounded_column.Given.{Over}
 use Rattle.zono_set.proofs.products.rounded_column.Goals as goal
-use Rattle.zono_set.proofs.products.rounded_column.Goals.{After-row_times_column, After-narrow_row_times_column}
+use Rattle.zono_set.proofs.products.rounded_column.Goals.{After-row_times_column}
 
 argument : (g : Over) (c : After-row_times_column g) → to_z w128 (of_z w128 c.row_times_column.result) ≡ total g.row.N (λ l. entry g.row.N c.args.a.now c.args.r l *ℤ column_entry c.args.cols.now l c.args.t)
 argument g c =
@@ -31,14 +30,11 @@ returns-else-narrow-clause-residue g c = let here = (goal.at.returns-else-narrow
 pub returns-else-narrow-clause-within : goal.returns-else-narrow-clause-within
 returns-else-narrow-clause-within g c = let here = (goal.at.returns-else-narrow-clause-within g c).After-row_times_column in nearest_small _ _ c.rounded.result.nearest (argument g here) (exact_small g here) c.rounded.ensures.near
 
-narrow_argument : (g : Over) (c : After-narrow_row_times_column g) → to_z w64 (of_z w64 c.narrow_row_times_column.result) ≡ total g.row.N (λ l. entry g.row.N c.args.a.now c.args.r l *ℤ column_entry c.args.cols.now l c.args.t)
-narrow_argument g c = back64 c.narrow_row_times_column.result (let h = c.narrow_row_times_column.ensures.within in omega arith) ∙ c.narrow_row_times_column.ensures.value
-
 pub returns-then-narrow-clause-nearest : goal.returns-then-narrow-clause-nearest
-returns-then-narrow-clause-nearest g c = let here = (goal.at.returns-then-narrow-clause-nearest g c).After-narrow_row_times_column in c.widened.ensures.nearest ∙ c.narrow_rounding.ensures.nearest ∙ ap rnd (narrow_argument g here)
+returns-then-narrow-clause-nearest g c = c.widened.ensures.nearest ∙ c.narrow_rounded_column.ensures.nearest
 
 pub returns-then-narrow-clause-residue : goal.returns-then-narrow-clause-residue
-returns-then-narrow-clause-residue g c = let here = (goal.at.returns-then-narrow-clause-residue g c).After-narrow_row_times_column in c.widened.ensures.residue ∙ c.narrow_rounding.ensures.residue ∙ ap residue (narrow_argument g here)
+returns-then-narrow-clause-residue g c = c.widened.ensures.residue ∙ c.narrow_rounded_column.ensures.residue
 
 pub returns-then-narrow-clause-within : goal.returns-then-narrow-clause-within
-returns-then-narrow-clause-within g c = let same = ap unsigned_abs c.widened.ensures.nearest in let small = c.narrow_rounding.ensures.within in omega arith
+returns-then-narrow-clause-within g c = let same = ap unsigned_abs c.widened.ensures.nearest in let small = c.narrow_rounded_column.ensures.within in omega arith

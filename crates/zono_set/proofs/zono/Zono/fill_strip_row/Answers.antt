@@ -1,4 +1,4 @@
-use Rattle.std.proofs.Common.{◌≡◌, ℕ, ◌+◌, ◌^◌, ◌≤◌, [], ◌∷◌, ◌++◌, length, ℤ, ◌+ℤ◌, ◌-ℤ◌, ◌*ℤ◌, unsigned_abs, to_z, of_z, sum_by, ap, ◌∙◌, sym, arith}
+use Rattle.std.proofs.Common.{◌≡◌, ℕ, ◌+◌, ◌^◌, ◌≤◌, [], ◌∷◌, ◌++◌, length, ℤ, pos, ◌+ℤ◌, ◌-ℤ◌, ◌*ℤ◌, unsigned_abs, to_z, of_z, sum_by, ap, ◌∙◌, sym, arith}
 use Rattle.std.proofs.lemmas.Int.{ints}
 use mir.Syntax.{w128}
 use Rattle.set_rules.specs.Sum.{total, magnitude}
@@ -9,14 +9,14 @@ use Rattle.set_rules.specs.Strip.{raw_output, raw_coefficient, strip_row, output
 use Rattle.set_rules.proofs.Sums.{total-zero, total-more}
 use Rattle.set_rules.proofs.ImageSets.{length-tabulate}
 use Rattle.set_rules.proofs.StripHolds.{strip-keeps}
-use Rattle.fixed_mat.proofs.Bits.{back, sum_on, sum_back, next_sum}
+use Rattle.fixed_mat.proofs.Bits.{back, sum_back, next_sum}
 use Rattle.fixed_mat.proofs.Columns.{pushes}
 use Rattle.fixed_mat.proofs.Bits64.{total-prefix}
 use Rattle.zono_set.proofs.Bound.{sum_by-tabulate}
-use Rattle.zono_set.proofs.Steps.{first_row, sum_behind, ok_unless, slack_small, difference_back}
+use Rattle.zono_set.proofs.Steps.{first_row, left_back, ok_unless, difference_back}
 use Rattle.zono_set.proofs.zono.Zono.fill_strip_row.Given.{Over}
 use Rattle.zono_set.proofs.zono.Zono.fill_strip_row.Goals as goal
-use Rattle.zono_set.proofs.zono.Zono.fill_strip_row.Goals.{After-rounded_column-product, After-ceil_s}
+use Rattle.zono_set.proofs.zono.Zono.fill_strip_row.Goals.{After-rounded_column-product, After-narrow_ceil}
 
 pub push-requires : goal.push-requires
 push-requires g c =
@@ -45,51 +45,44 @@ unwrap-requires g c =
     ok_unless c.push.result _ c.push.ensures.refused.0 (λ past. omega (arith, ints))
 
 pub loop-t-init : goal.loop-t-init
-loop-t-init g c = record { made = c.clear.ensures; left = sym (total-zero _); left_low = omega (arith, ints); left_high = omega (arith, ints) }
+loop-t-init g c = record { made = c.clear.ensures; left = sym (total-zero _); left_high = omega arith }
+
+-- what the rounding leaves of the next coefficient
+left_is : (g : Over) (c : After-rounded_column-product g) → pos (unsigned_abs (to_z w128 (of_z w128 c.rounded_column-product.result.residue))) ≡ residue (raw_coefficient g.row.N c.args.c_row.now c.args.self.now c.loop-t.t)
+left_is g c = left_back c.rounded_column-product.result.residue c.rounded_column-product.ensures.low c.rounded_column-product.ensures.half ∙ c.rounded_column-product.ensures.residue ∙ ap residue (coefficient_is g c)
 
 pub loop-t-preserved : goal.loop-t-preserved
 loop-t-preserved g c =
     let here = (goal.at.loop-t-preserved g c).After-rounded_column-product in
-    let few = c.len-t-end.ensures.few in
-    let low = c.loop-t.invariant.left_low in
     let high = c.loop-t.invariant.left_high in
-    let low' = c.rounded_column-product.ensures.low in
     let half = c.rounded_column-product.ensures.half in
+    let same = left_back c.rounded_column-product.result.residue c.rounded_column-product.ensures.low half in
     let items = rw c.unwrap.ensures at c.push.ensures.ok in
-    let left = c.rounded_column-product.ensures.residue ∙ ap residue (coefficient_is g here) in
-    let sum = sum_on c.loop-t.left-bits c.rounded_column-product.result.residue (omega (arith, ints)) (omega (arith, ints)) in
     record {
       made = pushes [] _ _ _ _ _ c.loop-t.invariant.made items (nearest_is g here);
-      left = sum ∙ next_sum (to_z w128 c.loop-t.left-bits) c.rounded_column-product.result.residue c.loop-t.t (λ t. residue (raw_coefficient g.row.N c.args.c_row.now c.args.self.now t)) c.loop-t.invariant.left left;
-      left_low = omega (arith, ints);
-      left_high = omega (arith, ints);
+      left = next_sum (pos c.loop-t.left) (pos (unsigned_abs (to_z w128 (of_z w128 c.rounded_column-product.result.residue)))) c.loop-t.t (λ t. residue (raw_coefficient g.row.N c.args.c_row.now c.args.self.now t)) c.loop-t.invariant.left (left_is g here);
+      left_high = omega (arith, ints, high, half, same);
     }
 
-middle_residue : (g : Over) (c : After-ceil_s g) → c.output_middle-middle.result.residue ≡ residue (raw_output g.row.N c.args.c_row.now c.args.du c.args.self.now)
+middle_residue : (g : Over) (c : After-narrow_ceil g) → c.output_middle-middle.result.residue ≡ residue (raw_output g.row.N c.args.c_row.now c.args.du c.args.self.now)
 middle_residue g c = c.output_middle-middle.ensures.residue ∙ ap (λ d. residue (raw_output g.row.N c.args.c_row.now d c.args.self.now)) (back c.args.du (let h = c.requires.input in omega arith))
 
 -- what makes up for the rounding
-slack_is : (g : Over) (c : After-ceil_s g) → (c.ceil_s.result ≡ output_slack g.row.N c.args.c_row.now c.args.du c.args.self.now) × (unsigned_abs c.ceil_s.result ≤ 10 ^ 12)
+slack_is : (g : Over) (c : After-narrow_ceil g) → (c.narrow_ceil.result ≡ output_slack g.row.N c.args.c_row.now c.args.du c.args.self.now) × (unsigned_abs c.narrow_ceil.result ≤ 10 ^ 12)
 slack_is g c =
     let count = c.len-t-end.ensures.value ∙ ap (λ (z : Zono). length z.columns) c.self.view_is in
-    let few = c.len-t-end.ensures.few in
     let end : c.loop-t.t ≡ length c.args.self.now.columns = omega arith in
-    let low = c.loop-t.invariant.left_low in
-    let high = c.loop-t.invariant.left_high in
-    let low' = c.output_middle-middle.ensures.low in
-    let half = c.output_middle-middle.ensures.half in
-    let sum = sum_behind c.output_middle-middle.result.residue c.loop-t.left-bits (omega (arith, ints)) (omega (arith, ints)) in
-    let is = c.ceil_s.ensures.value ∙ ap ceil_s sum in (
-      is ∙ (λ i. ceil_s (middle_residue g c i +ℤ (c.loop-t.invariant.left ∙ ap (λ n. total n (λ t. residue (raw_coefficient g.row.N c.args.c_row.now c.args.self.now t))) end) i)),
-      slack_small (c.output_middle-middle.result.residue +ℤ to_z w128 c.loop-t.left-bits) c.ceil_s.result (omega (arith, ints)) (omega (arith, ints)) is,
+    let middle = left_back c.output_middle-middle.result.residue c.output_middle-middle.ensures.low c.output_middle-middle.ensures.half ∙ middle_residue g c in (
+      c.narrow_ceil.ensures.value ∙ (λ i. ceil_s (middle i +ℤ (c.loop-t.invariant.left ∙ ap (λ n. total n (λ t. residue (raw_coefficient g.row.N c.args.c_row.now c.args.self.now t))) end) i)),
+      c.narrow_ceil.ensures.within,
     )
 
-last_is : (g : Over) (c : After-ceil_s g) → to_z w128 (of_z w128 (to_z w128 (of_z w128 c.args.f) +ℤ to_z w128 (of_z w128 c.ceil_s.result))) ≡ c.args.f +ℤ output_slack g.row.N c.args.c_row.now c.args.du c.args.self.now
+last_is : (g : Over) (c : After-narrow_ceil g) → to_z w128 (of_z w128 (to_z w128 (of_z w128 c.args.f) +ℤ to_z w128 (of_z w128 c.narrow_ceil.result))) ≡ c.args.f +ℤ output_slack g.row.N c.args.c_row.now c.args.du c.args.self.now
 last_is g c =
     let low = c.requires.noise_low in
     let high = c.requires.noise_high in
     let s = (slack_is g c).1 in
-    sum_back c.args.f c.ceil_s.result (omega (arith, ints)) (omega arith) ∙ ap (λ z. c.args.f +ℤ z) (slack_is g c).0
+    sum_back c.args.f c.narrow_ceil.result (omega (arith, ints)) (omega arith) ∙ ap (λ z. c.args.f +ℤ z) (slack_is g c).0
 
 pub overflow_add-f : goal.overflow_add-f
 overflow_add-f g c =
@@ -107,7 +100,7 @@ push-requires-2 g c =
 
 pub unwrap-requires-2 : goal.unwrap-requires-2
 unwrap-requires-2 g c =
-    let here = (goal.at.unwrap-requires-2 g c).After-ceil_s in
+    let here = (goal.at.unwrap-requires-2 g c).After-narrow_ceil in
     let f : ℕ → ℤ = λ t. rnd (raw_coefficient g.row.N c.args.c_row.now c.args.self.now t) in
     let count = c.len-t-end.ensures.value ∙ ap (λ (z : Zono). length z.columns) c.self.view_is in
     let prefix = total-prefix c.loop-t.t (length c.args.self.now.columns) f (omega arith) in
@@ -124,7 +117,7 @@ unwrap-requires-2 g c =
 pub returns-clause-coefficients : goal.returns-clause-coefficients
 unfolding strip_row
 returns-clause-coefficients g c =
-    let here = (goal.at.returns-clause-coefficients g c).After-ceil_s in
+    let here = (goal.at.returns-clause-coefficients g c).After-narrow_ceil in
     let count = c.len-t-end.ensures.value ∙ ap (λ (z : Zono). length z.columns) c.self.view_is in
     let end : c.loop-t.t ≡ length c.args.self.now.columns = omega arith in
     let items = rw c.unwrap-2.ensures at c.push-2.ensures.ok in

@@ -1,63 +1,95 @@
-use Rattle.std.proofs.Common.{◌≡◌, ℕ, ◌<◌, ◌≤◌, ◌≢◌, ◌^◌, [], length, set, get_or-set_same, get_or-set_other, ℤ, pos, ◌+ℤ◌, ◌*ℤ◌, unsigned_abs, to_z, of_z, ap, ◌∙◌, arith, below_more}
-use Rattle.std.proofs.lemmas.Int.{ints}
-use Rattle.std.proofs.lemmas.List.FromFn.{length-map-range_with_len, fill_by_all}
+use Rattle.std.proofs.Common.{◌≡◌, ℕ, ◌+◌, ◌-◌, ◌<◌, ◌≤◌, ◌≢◌, List, length, length-set, take, set, get_or, get_or-set_same, get_or-set_other, ℤ, pos, ◌+ℤ◌, ◌*ℤ◌, unsigned_abs, to_z, of_z, ap, ◌∙◌, arith, below_more}
+use Rattle.std.proofs.lemmas.List.{length-take-le, get_or-take}
+use Rattle.std.proofs.lemmas.List.FromFn.{fill_by_all}
 use mir.Syntax.{w128}
-use Rattle.set_rules.specs.Sum.{total}
+use Rattle.set_rules.specs.Sum.{total, magnitude}
 use Rattle.set_rules.specs.Columns.{at, entry, column_entry, tabulate}
 use Rattle.set_rules.specs.Round.{rnd, residue}
 use Rattle.set_rules.specs.Zono.{range}
-use Rattle.fixed_mat.proofs.Bits.{back, sum_back}
-use Rattle.fixed_mat.proofs.Columns.{pushes}
-use Rattle.zono_set.proofs.Steps.{filled-all}
+use Rattle.fixed_mat.proofs.Bits.{back}
+use Rattle.zono_set.proofs.Steps.{left_back, filled-all}
+use Rattle.zono_set.proofs.zono.image.move_column.Given.{Over}
 use Rattle.zono_set.proofs.zono.image.move_column.Goals as goal
+use Rattle.zono_set.proofs.zono.image.move_column.Goals.{After-unsigned_abs}
 
-pub push-requires : goal.push-requires
-push-requires g c =
-    let long = ap length c.loop-i.invariant.moved ∙ length-map-range_with_len _ 0 c.loop-i.i in
-    let small = c.rounded_column-state.ensures.states in
-    let states = c.requires.states in
-    (omega arith, omega arith)
+-- the next entry, from its bits
+module _ (g : Over) (c : After-unsigned_abs g) where
+  abbrev exact : ℤ
+  exact = total g.row.N (λ l. entry g.row.N c.args.a.now c.loop-i.i l *ℤ column_entry c.args.cols.now l c.args.t)
+
+  nearest : to_z w128 (of_z w128 c.rounded_column-state.result.nearest) ≡ rnd exact
+  nearest = back c.rounded_column-state.result.nearest (let h = c.rounded_column-state.ensures.within in omega arith) ∙ c.rounded_column-state.ensures.nearest
+
+  size_is : pos c.unsigned_abs.result ≡ magnitude (rnd exact)
+  size_is = ap pos (c.unsigned_abs.ensures.value ∙ ap unsigned_abs nearest)
+
+  size_small : c.unsigned_abs.result ≤ 1_000_000_000_000_000_000
+  size_small =
+      let is = c.unsigned_abs.ensures.value ∙ ap unsigned_abs nearest in
+      let fits = c.requires.fits c.loop-i.i c.loop-i-test.true in
+      omega (arith, is, fits)
+
+  left_is : pos (unsigned_abs (to_z w128 (of_z w128 c.rounded_column-state.result.residue))) ≡ residue exact
+  left_is = left_back c.rounded_column-state.result.residue c.rounded_column-state.ensures.low c.rounded_column-state.ensures.half ∙ c.rounded_column-state.ensures.residue
+
+pub overflow_cast-sizes : goal.overflow_cast-sizes
+overflow_cast-sizes g c = let h = size_small g c in record { fits = omega (arith, h) }
+
+pub overflow_add-sizes : goal.overflow_add-sizes
+overflow_add-sizes g c =
+    let h = size_small g (goal.at.overflow_add-sizes g c).After-unsigned_abs in
+    let still = (c.loop-i.invariant.still c.loop-i.i (omega arith)).0 in
+    let before = c.requires.sizes c.loop-i.i c.loop-i-test.true in
+    record { fits = omega (arith, h, still, before) }
 
 pub loop-i-preserved : goal.loop-i-preserved
 loop-i-preserved g c =
-    let states = c.requires.states in
-    let below : c.loop-i.i < g.row.N = omega arith in
-    let still = c.loop-i.invariant.still c.loop-i.i (omega arith) in
-    let little = c.requires.little c.loop-i.i below in
-    let h = c.rounded_column-state.ensures.half in
-    let l = c.rounded_column-state.ensures.low in
-    let before : unsigned_abs (at c.loop-i.left c.loop-i.i) ≤ 10 ^ 36 = let e = ap unsigned_abs still in omega arith in
-    let nearest = back c.rounded_column-state.result.nearest (let h = c.rounded_column-state.ensures.within in omega arith) ∙ c.rounded_column-state.ensures.nearest in
-    let value = sum_back (at c.loop-i.left c.loop-i.i) c.rounded_column-state.result.residue before (omega (arith, ints)) ∙ (λ i. still i +ℤ c.rounded_column-state.ensures.residue i) in
-    let lt : c.loop-i.i < length c.loop-i.left = let same = c.loop-i.auto.left in omega arith in
-    let new = to_z w128 (of_z w128 (to_z w128 (of_z w128 (at c.loop-i.left c.loop-i.i)) +ℤ to_z w128 (of_z w128 c.rounded_column-state.result.residue))) in
+    let here = (goal.at.loop-i-preserved g c).After-unsigned_abs in
+    let i = c.loop-i.i in
+    let below : i < 8 = let test = c.loop-i-test.true in let small = c.len.ensures.height_small in omega (arith, test, small) in
+    let lt : i < length c.loop-i.moved = let long = c.loop-i.invariant.long in omega (arith, below, long) in
+    let lt_sizes : i < length c.loop-i.sizes = let long = c.loop-i.invariant.long_sizes in omega (arith, below, long) in
+    let lt_left : i < length c.loop-i.left = let long = c.loop-i.invariant.long_left in omega (arith, below, long) in
+    let entry = to_z w128 (of_z w128 c.rounded_column-state.result.nearest) in
+    let size = get_or c.loop-i.sizes i 0 + c.unsigned_abs.result in
+    let left = get_or c.loop-i.left i 0 + unsigned_abs (to_z w128 (of_z w128 c.rounded_column-state.result.residue)) in
+    let still = c.loop-i.invariant.still i (omega arith) in
     record {
-      moved = pushes [] _ _ _ _ _ c.loop-i.invariant.moved c.push.ensures.items nearest;
-      added = below_more _ _
-          (λ k h. let ne : k ≢ c.loop-i.i = λ e. omega arith in get_or-set_other c.loop-i.left c.loop-i.i k new (pos 0) ne ∙ c.loop-i.invariant.added k h)
-          (get_or-set_same c.loop-i.left c.loop-i.i new (pos 0) lt ∙ value);
-      still = λ k h. let ne : k ≢ c.loop-i.i = λ e. omega arith in get_or-set_other c.loop-i.left c.loop-i.i k new (pos 0) ne ∙ c.loop-i.invariant.still k (omega arith);
+      long = length-set c.loop-i.moved i entry ∙ c.loop-i.invariant.long;
+      long_sizes = length-set c.loop-i.sizes i size ∙ c.loop-i.invariant.long_sizes;
+      long_left = length-set c.loop-i.left i left ∙ c.loop-i.invariant.long_left;
+      moved = below_more _ _
+          (λ k h. let ne : k ≢ i = λ e. omega (arith, h, e) in get_or-set_other c.loop-i.moved i k entry (pos 0) ne ∙ c.loop-i.invariant.moved k h)
+          (get_or-set_same c.loop-i.moved i entry (pos 0) lt ∙ nearest g here);
+      sizes = below_more _ _
+          (λ k h. let ne : k ≢ i = λ e. omega (arith, h, e) in ap pos (get_or-set_other c.loop-i.sizes i k size 0 ne) ∙ c.loop-i.invariant.sizes k h)
+          (ap pos (get_or-set_same c.loop-i.sizes i size 0 lt_sizes) ∙ (λ ι. pos (still.0 ι) +ℤ size_is g here ι));
+      left = below_more _ _
+          (λ k h. let ne : k ≢ i = λ e. omega (arith, h, e) in ap pos (get_or-set_other c.loop-i.left i k left 0 ne) ∙ c.loop-i.invariant.left k h)
+          (ap pos (get_or-set_same c.loop-i.left i left 0 lt_left) ∙ (λ ι. pos (still.1 ι) +ℤ left_is g here ι));
+      still = λ k h. let ne : k ≢ i = λ e. omega (arith, h, e) in
+          let before = c.loop-i.invariant.still k (omega (arith, h)) in
+          (get_or-set_other c.loop-i.sizes i k size 0 ne ∙ before.0, get_or-set_other c.loop-i.left i k left 0 ne ∙ before.1);
     }
+
+-- what was written of the new column is all of it
+module _ (n i : ℕ) (small : n ≤ 8) (end : i ≡ n) (moved : List ℤ) (long : length moved ≡ 8) (f : ℕ → ℤ) (written : (k : ℕ) → k < i → at moved k ≡ f k) where
+  whole : take (n - 0) moved ≡ tabulate n f
+  whole =
+      let all = length-take-le (n - 0) moved (omega arith) in
+      fill_by_all f (take (n - 0) moved) n (pos 0) (omega (arith, all))
+      (λ k h. get_or-take (n - 0) moved k (pos 0) (omega (arith, h)) ∙ written k (omega (arith, h, end)))
 
 pub replace-requires : goal.replace-requires
 replace-requires g c =
-    let states = c.requires.states in
     let end : c.loop-i.i ≡ g.row.N = omega arith in
     let f : ℕ → ℤ = λ i. rnd (total g.row.N (λ l. entry g.row.N c.args.a.now i l *ℤ column_entry c.args.cols.now l c.args.t)) in
-    let is = c.deref.ensures.0 ∙ c.loop-i.invariant.moved ∙ ap (λ n. tabulate n f) end in
-    let long = ap length is ∙ length-map-range_with_len f 0 g.row.N in
-    (omega arith, (c.requires.column, (long, filled-all g.row.N f c.deref.result.now range is c.requires.fits)))
+    let is = whole g.row.N c.loop-i.i c.len.ensures.height_small end c.loop-i.moved c.loop-i.invariant.long f c.loop-i.invariant.moved in
+    let all = length-take-le (g.row.N - 0) c.loop-i.moved (let small = c.len.ensures.height_small in let long = c.loop-i.invariant.long in omega (arith, small, long)) in
+    (omega arith, (c.requires.column, (omega (arith, all), filled-all g.row.N f (take (g.row.N - 0) c.loop-i.moved) range is c.requires.fits)))
 
 pub returns-clause-moved : goal.returns-clause-moved
 returns-clause-moved g c =
-    let states = c.requires.states in
     let end : c.loop-i.i ≡ g.row.N = omega arith in
     let f : ℕ → ℤ = λ i. rnd (total g.row.N (λ l. entry g.row.N c.args.a.now i l *ℤ column_entry c.args.cols.now l c.args.t)) in
-    c.replace.ensures ∙ ap (set c.args.cols.now c.args.t) (c.deref.ensures.0 ∙ c.loop-i.invariant.moved ∙ ap (λ n. tabulate n f) end)
-
-pub returns-clause-left : goal.returns-clause-left
-returns-clause-left g c =
-    let states = c.requires.states in
-    let end : c.loop-i.i ≡ g.row.N = omega arith in
-    fill_by_all (λ i. at c.args.left.now i +ℤ residue (total g.row.N (λ l. entry g.row.N c.args.a.now i l *ℤ column_entry c.args.cols.now l c.args.t))) c.loop-i.left g.row.N (pos 0) (c.loop-i.auto.left ∙ c.requires.states)
-    (λ k h. c.loop-i.invariant.added k (omega arith))
+    c.replace.ensures ∙ ap (set c.args.cols.now c.args.t) (whole g.row.N c.loop-i.i c.len.ensures.height_small end c.loop-i.moved c.loop-i.invariant.long f c.loop-i.invariant.moved)

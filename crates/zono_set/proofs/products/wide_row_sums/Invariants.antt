@@ -2,7 +2,7 @@ use Rattle.std.proofs.Common.{◌≡◌, ◌*◌, ◌*ℤ◌, ◌≤ℤ◌, pos}
 use Rattle.set_rules.specs.Sum.{total, magnitude}
 use Rattle.set_rules.specs.Columns.{entry, column_entry}
 use Rattle.set_rules.specs.Round.{rnd, residue}
-use Rattle.zono_set.proofs.products.row_sums.Given as goal
+use Rattle.zono_set.proofs.products.wide_row_sums.Given as goal
 
 abbrev pub invariant-loop-t : goal.invariant-loop-t
 invariant-loop-t g l = record {

@@ -7,7 +7,7 @@ use Rattle.set_rules.specs.Round.{rnd, residue}
 use Rattle.set_rules.proofs.Sums.{total-zero}
 use Rattle.fixed_mat.proofs.Bits.{sum_on, next_sum}
 use Rattle.zono_set.proofs.Steps.{abs_of, abs_small}
-use Rattle.zono_set.proofs.products.row_sums.Goals as goal
+use Rattle.zono_set.proofs.products.wide_row_sums.Goals as goal
 
 pub loop-t-init : goal.loop-t-init
 loop-t-init g c = record { size = sym (total-zero _); left = sym (total-zero _); size_low = omega (arith, ints); size_high = omega (arith, ints); left_low = omega (arith, ints); left_high = omega (arith, ints) }

@@ -1,0 +1,16 @@
+use Rattle.std.proofs.Common.{◌≡◌, ℕ, ◌+◌, ◌*◌, ◌/◌, ◌^◌, ◌≤◌, pos, unsigned_abs, ap, ◌∙◌, arith}
+use Rattle.std.proofs.lemmas.Int.{ints}
+use Rattle.set_rules.specs.Round.{ceil_s}
+use Rattle.fixed_mat.proofs.Bits.{back}
+use Rattle.set_rules.proofs.Rounds.{ceil_s-least, ceil_s-within}
+use Rattle.zono_set.proofs.products.narrow_ceil.Goals as goal
+
+-- the quotient is the least cover
+ceil_is : (p : ℕ) → pos ((p + 999_999_999) / 1_000_000_000) ≡ ceil_s (pos p)
+ceil_is p =
+    let covers = (ceil_s-least (pos p)).covers in
+    let within = ceil_s-within (pos p) in
+    omega (arith, ints)
+
+pub returns-clause-value : goal.returns-clause-value
+returns-clause-value c = back c.from.result (let is = c.from.ensures in omega (arith, ints)) ∙ c.from.ensures ∙ ceil_is c.args.left
