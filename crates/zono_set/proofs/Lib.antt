@@ -5,3 +5,4 @@ pub mod Reaches
 pub mod Taken
 pub mod Kept
 pub mod Ahead
+pub mod Unrounded
