@@ -54,7 +54,7 @@ used-in_range n old new test = (in_range-tests n new).0 (first (in_range n new) 
     first a b h = grind arith
 
 -- a zero column
-zeros-at : (n i : ℕ) → at (replicate n (pos 0)) i ≡ pos 0
+pub zeros-at : (n i : ℕ) → at (replicate n (pos 0)) i ≡ pos 0
 zeros-at zero zero = refl
 zeros-at zero (suc i) = refl
 zeros-at (suc n) zero = refl

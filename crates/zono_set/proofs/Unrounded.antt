@@ -1,5 +1,5 @@
 -- A row that surely spreads a set: what makes up for the rounding adds no less than the rounding takes away, so the unrounded shares bound the sum of the radii from below.
-use Rattle.std.proofs.Common.{◌≡◌, ℕ, ◌+◌, ◌*◌, ◌<◌, ◌≤◌, ◌⊎◌, ⊎_elim, List, [], ◌∷◌, length, ℤ, pos, ◌+ℤ◌, ◌-ℤ◌, ◌*ℤ◌, ◌≤ℤ◌, ◌<ℤ◌, unsigned_abs, refl, sym, ap, ◌∙◌, subst, arith}
+use Rattle.std.proofs.Common.{◌≡◌, ℕ, ◌+◌, ◌*◌, ◌<◌, ◌≤◌, ◌⊎◌, ⊎_elim, List, [], ◌∷◌, length, ℤ, pos, ◌+ℤ◌, ◌-ℤ◌, ◌*ℤ◌, ◌≤ℤ◌, ◌<ℤ◌, unsigned_abs, refl, sym, ap, ◌∙◌, arith}
 use Rattle.std.proofs.lemmas.Int.{ints}
 use Rattle.std.proofs.lemmas.List.FromFn.{fill_by_all}
 use Rattle.std.proofs.lemmas.List.Sums.{get_or-le-sum_by}
@@ -16,7 +16,6 @@ use Rattle.set_rules.proofs.SubstitutionHolds.{size-substitution}
 use Rattle.fixed_mat.proofs.Bits64.{total-prefix}
 use Rattle.zono_set.proofs.Bound.{residue-half, sum_by-tabulate}
 use Rattle.zono_set.proofs.Taken.{nothing-at, nothing-past}
-use Rattle.zono_set.proofs.Ahead.{total-grows}
 
 -- what is left of an entry, and what the rounding leaves, make up for what is left unrounded
 left-unrounded : (g p : ℤ) → magnitude (pos unit *ℤ g -ℤ p) ≤ℤ (pos unit *ℤ magnitude (g -ℤ rnd p) +ℤ residue p)
@@ -85,16 +84,15 @@ module _ (gains a : List ℤ) (z : Zono) where
           let whole = raw_size-is i in
           omega (arith, ints, each, split, scale, covers, low, is, whole)
 
-      -- so some states whose unrounded magnitudes add up to more than the sum of all radii decide
-      pub spreads : (i : ℕ) → i < n → (pos unit *ℤ spread n z) <ℤ total (i + 1) raw_size → spread n z <ℤ spread n new
-      spreads i h more =
-          let grows = total-grows (i + 1) n raw_size (omega arith) (λ j. subst (λ v. pos 0 ≤ℤ v) (sym (raw_size-is j)) (total-magnitudes-low (length a) (raw j))) in
+      -- so where they add up to more than the sum of all radii, that sum grows
+      pub spreads : (pos unit *ℤ spread n z) <ℤ total n raw_size → spread n z <ℤ spread n new
+      spreads more =
           let most = total-mono n raw_size (λ j. pos unit *ℤ row_magnitude new.columns j) state-spreads in
           let scale = total-scale n (pos unit) (row_magnitude new.columns) in
-          by (spread n z) (spread n new) (total (i + 1) raw_size) (total n raw_size) (total n (λ j. pos unit *ℤ row_magnitude new.columns j)) more grows most scale
+          by (spread n z) (spread n new) (total n raw_size) (total n (λ j. pos unit *ℤ row_magnitude new.columns j)) more most scale
         where
-          by : (x y s t u : ℤ) → (pos unit *ℤ x) <ℤ s → s ≤ℤ t → t ≤ℤ u → u ≡ pos unit *ℤ y → x <ℤ y
-          by x y s t u h₁ h₂ h₃ h₄ = omega (arith, ints)
+          by : (x y s t : ℤ) → (pos unit *ℤ x) <ℤ s → s ≤ℤ t → t ≡ pos unit *ℤ y → x <ℤ y
+          by x y s t h₁ h₂ h₃ = omega (arith, ints)
 
 -- the magnitudes of a list's numbers
 sum-of : (a : List ℤ) → pos (sum_by unsigned_abs a) ≡ total (length a) (λ t. magnitude (at a t))
