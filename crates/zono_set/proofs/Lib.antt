@@ -6,3 +6,4 @@ pub mod Taken
 pub mod Kept
 pub mod Moved
 pub mod Ahead
+pub mod Unrounded

@@ -54,7 +54,7 @@ used-in_range n old new test = (in_range-tests n new).0 (first (in_range n new) 
     first a b h = grind arith
 
 -- a zero column
-zeros-at : (n i : ℕ) → at (replicate n (pos 0)) i ≡ pos 0
+pub zeros-at : (n i : ℕ) → at (replicate n (pos 0)) i ≡ pos 0
 zeros-at zero zero = refl
 zeros-at zero (suc i) = refl
 zeros-at (suc n) zero = refl
@@ -70,9 +70,14 @@ zero-column n = sym (fill_by_all (λ j. diagonal (λ _. pos 0) j 0) (replicate n
     none : (k : ℕ) → diagonal (λ _. pos 0) k 0 ≡ pos 0
     none k = grind (arith, nat_tests)
 
-nothing-at : (i : ℕ) → at [] i ≡ pos 0
+pub nothing-at : (i : ℕ) → at [] i ≡ pos 0
 nothing-at zero = refl
 nothing-at (suc i) = refl
+
+-- past the last column there is nothing
+pub nothing-past : (g : List (List ℤ)) (i : ℕ) → column_entry g i (length g) ≡ pos 0
+nothing-past [] i = nothing-at i
+nothing-past (column ∷ g) i = nothing-past g i
 
 -- a zero column appended changes no entry
 pub padded : (n : ℕ) (g : List (List ℤ)) (i t : ℕ) → column_entry (g ++ replicate n (pos 0) ∷ []) i t ≡ column_entry g i t
@@ -87,13 +92,9 @@ row_magnitude-padded n g i =
     ap (λ m. total m (λ t. magnitude (column_entry new i t))) (length-append g (replicate n (pos 0) ∷ []))
     ∙ total-more (length g) (λ t. magnitude (column_entry new i t))
     ∙ (λ ι. total-same (length g) (λ t. magnitude (column_entry new i t)) (λ t. magnitude (column_entry g i t)) (λ t _. ap magnitude (padded n g i t)) ι
-    +ℤ ap magnitude (padded n g i (length g) ∙ past g i) ι)
+    +ℤ ap magnitude (padded n g i (length g) ∙ nothing-past g i) ι)
     ∙ none (row_magnitude g i)
   where
-    past : (g : List (List ℤ)) (i : ℕ) → column_entry g i (length g) ≡ pos 0
-    past [] i = nothing-at i
-    past (column ∷ g) i = past g i
-
     none : (x : ℤ) → x +ℤ pos 0 ≡ x
     none x = omega (arith, ints)
 

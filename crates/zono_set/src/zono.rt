@@ -4,6 +4,7 @@ mod image;
 mod narrow;
 mod strip;
 mod substitute;
+mod unrounded;
 
 ghost use Rattle.std.specs.Prelude.{◌≡◌, ℕ, ◌+◌, ◌<◌, ◌≤◌, length, ℤ, pos, ◌+ℤ◌, ◌≤ℤ◌, unsigned_abs, IfOk, IfErr, OnOk, OnErr};
 ghost use Rattle.set_rules.specs.Sum.{magnitude};

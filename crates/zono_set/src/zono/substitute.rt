@@ -35,6 +35,9 @@ impl<const N: usize> Zono<N> {
         ensures keeps { (result ≡ used_where true) → HoldsRow N (record { coefficients = a.now; right = b }) self.old self.new }
     {
         let before = self.spread();
+        if self.surely_spreads(before, a, gain) {
+            return Used::No;
+        }
         let count = self.cols.len();
         pad(&mut self.cols, a.len());
         let Some(ahead) = look_ahead(&self.centre, &self.cols, before, a, b, gain, &mut self.rest)
