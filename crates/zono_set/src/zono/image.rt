@@ -14,7 +14,7 @@ ghost use Rattle.zono_set.specs.Narrow.{HasNarrowRow};
 use crate::products::{narrow_ceil, rounded_centre, rounded_column, row_sums};
 use crate::zono::{PastRange, Zono};
 use arrayvec::ArrayVec;
-use fixed_mat::{Coef, Cols, Mat, Range, Raw, ceil_s};
+use fixed_mat::{Coef, Cols, Mat, Range, Raw, ceil_s, times};
 
 impl<const N: usize> Zono<N> {
     /// The image under `x ↦ (a x + shift) / S + e v`, rounded outwards, with every one of the `w` disturbances `v` from -1 to 1.
@@ -121,7 +121,7 @@ impl<const N: usize> Zono<N> {
         let count = self.cols.len() as i128;
         let mut sum = 0;
         for l in 0..N {
-            sum += a.at(i, l).abs() * reaches[l];
+            sum += times(a.at(i, l).abs(), reaches[l]);
         }
         sum + shift.at(i, 0).abs() + 1_000_000_000 * (count + 2 + noise_reach(e, w, i))
     }
@@ -153,11 +153,11 @@ fn noise_reach<const N: usize>(e: &Mat<N, 8, Range>, w: usize, i: usize) -> i128
     ensures value { result ≡ total w (λ t. magnitude (entry 8 e.now i t)) }
     ensures within { unsigned_abs result ≤ 8_000_000_000_000_000_000 }
 {
-    let mut sum = 0;
+    let mut sum: u64 = 0;
     for t in 0..w {
-        sum += e.at(i, t).abs();
+        sum += (e.at(i, t) as i64).unsigned_abs();
     }
-    sum
+    i128::from(sum)
 }
 
 /// Moves the centre, and gives what the rounding leaves in each state.
@@ -214,10 +214,11 @@ fn move_each<const N: usize>(a: &Mat<N, N, Coef>, cols: &mut Cols<N>, narrow: bo
     ensures sizes { (i : ℕ) → i < N → pos (slice_index_or result.sizes i 0) ≡ total (length cols.old) (λ t. magnitude (rnd_of (total N (λ l. entry N a.now i l *ℤ column_entry cols.old l t)))) }
     ensures left { (i : ℕ) → i < N → pos (slice_index_or result.left i 0) ≡ total (length cols.old) (λ t. residue_of (total N (λ l. entry N a.now i l *ℤ column_entry cols.old l t))) }
 {
+    let mut moved = [0; 8];
     let mut sizes = [0; 8];
     let mut left = [0; 8];
     for t in 0..cols.len() {
-        move_column(a, cols, t, narrow, &mut sizes, &mut left);
+        move_column(a, cols, t, narrow, &mut moved, &mut sizes, &mut left);
     }
     Moved { sizes, left }
 }
@@ -229,6 +230,7 @@ fn move_column<const N: usize>(
     cols: &mut Cols<N>,
     t: usize,
     narrow: bool,
+    moved: &mut [i128; 8],
     sizes: &mut [u64; 8],
     left: &mut [u64; 8],
 )
@@ -242,7 +244,6 @@ fn move_column<const N: usize>(
     ensures left { (i : ℕ) → i < N → pos (slice_index_or left.new i 0) ≡ pos (slice_index_or left.old i 0) +ℤ residue_of (total N (λ l. entry N a.now i l *ℤ column_entry cols.old l t)) }
 {
     let _ = cols.len();
-    let mut moved = [0_i128; 8];
     for i in 0..N {
         let state = rounded_column(a, i, cols, t, narrow);
         moved[i] = state.nearest;

@@ -6,7 +6,7 @@ use Rattle.set_rules.specs.Columns.{entry, at, column_entry}
 use Rattle.set_rules.specs.Zono.{Zono, reach}
 use Rattle.set_rules.proofs.Sums.{total-zero, total-magnitudes-low}
 use Rattle.set_rules.proofs.ImageSets.{length-tabulate, get_or-tabulate}
-use Rattle.fixed_mat.proofs.Bits.{entry-one, product_fits, sum_fits, next_total, next_small, whole_sum}
+use Rattle.fixed_mat.proofs.Bits.{back, entry-one, small_fits, sum_on, next_sum, whole_sum}
 use Rattle.zono_set.proofs.Steps.{abs_of, bound_back, bound_fits}
 use Rattle.zono_set.proofs.zono.Zono.reach_bound.Given.{Over}
 use Rattle.zono_set.proofs.zono.Zono.reach_bound.Goals as goal
@@ -42,29 +42,35 @@ offset_bounds-reaches-l g c = let high = c.len-count.ensures.height_small in ome
 pub bounds-reaches-l : goal.bounds-reaches-l
 bounds-reaches-l g c = spot g c
 
-pub overflow_mul-sum : goal.overflow_mul-sum
-overflow_mul-sum g c =
-    let here = (goal.at.overflow_mul-sum g c).After-abs in
-    product_fits c.abs.result (get_or c.args.reaches.now c.loop-l.l (pos 0)) (size_small g here).0 (reach_small g here)
+pub times-sum-requires-clause-left : goal.times-sum-requires-clause-left
+times-sum-requires-clause-left g c =
+    let size = (size_small g (goal.at.times-sum-requires-clause-left g c).After-abs).0 in
+    rw (back c.abs.result (omega arith)) (omega arith)
+
+pub times-sum-requires-clause-right : goal.times-sum-requires-clause-right
+times-sum-requires-clause-right g c =
+    let size = reach_small g (goal.at.times-sum-requires-clause-right g c).After-abs in
+    rw (back (get_or c.args.reaches.now c.loop-l.l (pos 0)) (omega arith)) size
 
 pub overflow_add-sum : goal.overflow_add-sum
 overflow_add-sum g c =
-    let here = (goal.at.overflow_add-sum g c).After-abs in
+    let small = c.times-sum.ensures.within in
+    let before = c.loop-l.invariant.within in
     let high = c.len-count.ensures.height_small in
-    sum_fits c.abs.result (get_or c.args.reaches.now c.loop-l.l (pos 0)) (size_small g here).0 (reach_small g here)
-    c.loop-l.l c.loop-l.sum-bits (to_z w128 c.loop-l.sum-bits) refl (omega arith) c.loop-l.invariant.within
+    rw (back c.times-sum.result (omega arith)) (small_fits (to_z w128 c.loop-l.sum-bits +ℤ c.times-sum.result) (omega (arith, ints)))
 
 pub loop-l-preserved : goal.loop-l-preserved
 loop-l-preserved g c =
     let here = (goal.at.loop-l-preserved g c).After-abs in
     let high = c.len-count.ensures.height_small in
-    let few : c.loop-l.l < 8 = omega arith in
+    let small = c.times-sum.ensures.within in
+    let before = c.loop-l.invariant.within in
+    let sum = sum_on c.loop-l.sum-bits c.times-sum.result (omega arith) (omega arith) in
+    let left = back c.abs.result (let h = (size_small g here).0 in omega arith) ∙ (size_small g here).1 in
+    let right = back (get_or c.args.reaches.now c.loop-l.l (pos 0)) (let h = reach_small g here in omega arith) ∙ reach_is g here in
     record {
-      so_far = next_total c.abs.result (get_or c.args.reaches.now c.loop-l.l (pos 0)) (size_small g here).0 (reach_small g here)
-          c.loop-l.l c.loop-l.sum-bits (to_z w128 c.loop-l.sum-bits) refl few c.loop-l.invariant.within (λ j. magnitude (entry g.row.N c.args.a.now c.args.i j) *ℤ reach c.args.self.now j) c.loop-l.invariant.so_far
-          (λ i. (size_small g here).1 i *ℤ reach_is g here i);
-      within = next_small c.abs.result (get_or c.args.reaches.now c.loop-l.l (pos 0)) (size_small g here).0 (reach_small g here)
-          c.loop-l.l c.loop-l.sum-bits (to_z w128 c.loop-l.sum-bits) refl few c.loop-l.invariant.within;
+      so_far = sum ∙ next_sum (to_z w128 c.loop-l.sum-bits) c.times-sum.result c.loop-l.l (λ j. magnitude (entry g.row.N c.args.a.now c.args.i j) *ℤ reach c.args.self.now j) c.loop-l.invariant.so_far (c.times-sum.ensures.value ∙ (λ i. left i *ℤ right i));
+      within = rw sum (omega (arith, ints));
     }
 
 shift_small : (g : Over) (c : After-noise_reach g) → (unsigned_abs c.abs-2.result ≤ 10 ^ 33) × (c.abs-2.result ≡ magnitude (at c.args.shift.now c.args.i))

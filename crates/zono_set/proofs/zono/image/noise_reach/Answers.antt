@@ -1,25 +1,39 @@
-use Rattle.std.proofs.Common.{unsigned_abs, to_z, sym, ap, ◌∙◌, arith}
-use Rattle.std.proofs.lemmas.Int.{ints}
-use mir.Syntax.{w128}
+use Rattle.std.proofs.Common.{◌≡◌, ◌≤◌, pos, unsigned_abs, to_z, of_z, sym, ap, ◌∙◌, arith}
+use mir.Syntax.{w64, w128}
 use Rattle.set_rules.specs.Sum.{magnitude}
 use Rattle.set_rules.specs.Columns.{entry}
 use Rattle.set_rules.proofs.Sums.{total-zero}
-use Rattle.fixed_mat.proofs.Bits.{sum_on, next_sum}
-use Rattle.zono_set.proofs.Steps.{abs_of}
+use Rattle.fixed_mat.proofs.Bits.{next_sum}
+use Rattle.fixed_mat.proofs.Bits64.{narrowed}
+use Rattle.zono_set.proofs.zono.image.noise_reach.Given.{Over}
 use Rattle.zono_set.proofs.zono.image.noise_reach.Goals as goal
+use Rattle.zono_set.proofs.zono.image.noise_reach.Goals.{After-unsigned_abs-sum}
 
 pub loop-t-init : goal.loop-t-init
 loop-t-init g c = record { so_far = sym (total-zero _); within = omega arith }
 
+module _ (g : Over) (c : After-unsigned_abs-sum g) where
+  same : to_z w64 (of_z w64 (to_z w128 (of_z w128 c.at.result))) ≡ c.at.result
+  same = narrowed c.at.result (let h = c.at.ensures.within in omega (arith, h))
+
+  size_small : c.unsigned_abs-sum.result ≤ 1_000_000_000_000_000_000
+  size_small = let is = c.unsigned_abs-sum.ensures.value ∙ ap unsigned_abs same in let h = c.at.ensures.within in omega (arith, is, h)
+
+pub overflow_add-sum : goal.overflow_add-sum
+overflow_add-sum g c =
+    let h = size_small g c in
+    let before = c.loop-t.invariant.within in
+    let test = c.loop-t-test.true in
+    let dists = c.requires.dists in
+    record { fits = omega (arith, h, before, test, dists) }
+
 pub loop-t-preserved : goal.loop-t-preserved
 loop-t-preserved g c =
-    let small = c.at.ensures.within in
-    let size = abs_of c.at.result (entry 8 c.args.e.now c.args.i c.loop-t.t) c.abs-sum.result (omega arith) c.abs-sum.ensures.value c.at.ensures.value in
-    let value = ap unsigned_abs c.at.ensures.value in
-    let dists = c.requires.dists in
-    let within = c.loop-t.invariant.within in
-    let sum = sum_on c.loop-t.sum-bits c.abs-sum.result (omega arith) (omega (arith, ints)) in
+    let here = (goal.at.loop-t-preserved g c).After-unsigned_abs-sum in
+    let size = ap pos (c.unsigned_abs-sum.ensures.value ∙ ap unsigned_abs (same g here ∙ c.at.ensures.value)) in
+    let small = size_small g here in
+    let before = c.loop-t.invariant.within in
     record {
-      so_far = sum ∙ next_sum (to_z w128 c.loop-t.sum-bits) c.abs-sum.result c.loop-t.t (λ t. magnitude (entry 8 c.args.e.now c.args.i t)) c.loop-t.invariant.so_far size;
-      within = rw sum (omega (arith, ints));
+      so_far = next_sum (pos c.loop-t.sum) (pos c.unsigned_abs-sum.result) c.loop-t.t (λ t. magnitude (entry 8 c.args.e.now c.args.i t)) c.loop-t.invariant.so_far size;
+      within = omega (arith, small, before);
     }

@@ -1,10 +1,10 @@
-use Rattle.std.proofs.Common.{◌≡◌, ◌*◌, ◌≤◌, unsigned_abs}
+use Rattle.std.proofs.Common.{◌≡◌, ◌*◌, ◌≤◌, pos}
 use Rattle.set_rules.specs.Sum.{total, magnitude}
 use Rattle.set_rules.specs.Columns.{entry}
 use Rattle.zono_set.proofs.zono.image.noise_reach.Given as goal
 
 abbrev pub invariant-loop-t : goal.invariant-loop-t
 invariant-loop-t g l = record {
-  so_far : l.sum ≡ total l.t (λ t. magnitude (entry 8 l.e l.i t));
-  within : unsigned_abs l.sum ≤ l.t * 1_000_000_000_000_000_000;
+  so_far : pos l.sum ≡ total l.t (λ t. magnitude (entry 8 l.e l.i t));
+  within : l.sum ≤ l.t * 1_000_000_000_000_000_000;
 }
