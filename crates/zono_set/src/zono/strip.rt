@@ -2,6 +2,7 @@
 
 ghost use Rattle.std.specs.Prelude.{◌≡◌, ◌+◌, ◌<◌, ◌≤◌, ◌^◌, length, pos, ◌≤ℤ◌, unsigned_abs};
 ghost use Rattle.set_rules.specs.Sum.{total, magnitude};
+ghost use Rattle.set_rules.specs.Columns.{tabulate};
 ghost use Rattle.set_rules.specs.Round.{rnd as rnd_of, residue as residue_of};
 ghost use Rattle.set_rules.specs.Strip.{raw_output, raw_coefficient, strip_row as strip_row_of, out_interval as out_interval_of};
 ghost use Rattle.zono_set.specs.Holds.{StripHolds, HoldsReadings};
@@ -55,17 +56,41 @@ impl<const N: usize> Zono<N> {
         ensures holds { StripHolds N c_row.now du y f self.now }
     {
         let middle = self.output_middle(c_row, du);
-        let narrow = self.has_narrow_row(c_row, 0);
-        a.clear();
-        let mut left: u64 = 0;
-        for t in 0..self.cols.len() {
-            let product = rounded_column(c_row, 0, &self.cols, t, narrow);
-            a.push(product.nearest).unwrap();
-            left += product.residue as u64;
-        }
+        let left = self.fill_coefficients(c_row, a);
         a.push(f + narrow_ceil(middle.residue as u64 + left))
             .unwrap();
         y - middle.nearest
+    }
+
+    /// Puts the rounded products of the row with each column in the place of the coefficients that were in `a`, in 64 bits where they fit; gives the sum of what the rounding leaves.
+    fn fill_coefficients(&self, c_row: &Mat<1, N, Coef>, a: &mut Coefs) -> u64
+        requires spread { total (length self.now.columns) (λ t. magnitude (rnd_of (raw_coefficient N c_row.now self.now t))) ≤ℤ pos 8_100_000_000_000_000_000_000 }
+        ensures coefficients { a.new ≡ tabulate (length self.now.columns) (λ t. rnd_of (raw_coefficient N c_row.now self.now t)) }
+        ensures left { pos result ≡ total (length self.now.columns) (λ t. residue_of (raw_coefficient N c_row.now self.now t)) }
+        ensures little { result ≤ 64_000_000_000 }
+    {
+        if self.has_narrow_row(c_row, 0) {
+            a.fill_narrow(c_row, 0, &self.cols)
+        } else {
+            self.fill_wide(c_row, a)
+        }
+    }
+
+    /// The same in 128 bits.
+    fn fill_wide(&self, c_row: &Mat<1, N, Coef>, a: &mut Coefs) -> u64
+        requires spread { total (length self.now.columns) (λ t. magnitude (rnd_of (raw_coefficient N c_row.now self.now t))) ≤ℤ pos 8_100_000_000_000_000_000_000 }
+        ensures coefficients { a.new ≡ tabulate (length self.now.columns) (λ t. rnd_of (raw_coefficient N c_row.now self.now t)) }
+        ensures left { pos result ≡ total (length self.now.columns) (λ t. residue_of (raw_coefficient N c_row.now self.now t)) }
+        ensures little { result ≤ 64_000_000_000 }
+    {
+        a.clear();
+        let mut left: u64 = 0;
+        for t in 0..self.cols.len() {
+            let product = rounded_column(c_row, 0, &self.cols, t, false);
+            a.push(product.nearest).unwrap();
+            left += product.residue as u64;
+        }
+        left
     }
 
     /// The interval in which the set predicts the output `(c_row x + du) / S`, with noise within `f`: its ends, within `10 ^ 24`.

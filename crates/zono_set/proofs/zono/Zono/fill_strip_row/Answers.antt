@@ -16,53 +16,7 @@ use Rattle.zono_set.proofs.Bound.{sum_by-tabulate}
 use Rattle.zono_set.proofs.Steps.{first_row, left_back, ok_unless, difference_back}
 use Rattle.zono_set.proofs.zono.Zono.fill_strip_row.Given.{Over}
 use Rattle.zono_set.proofs.zono.Zono.fill_strip_row.Goals as goal
-use Rattle.zono_set.proofs.zono.Zono.fill_strip_row.Goals.{After-rounded_column-product, After-narrow_ceil}
-
-pub push-requires : goal.push-requires
-push-requires g c =
-    let long = ap length c.loop-t.invariant.made ∙ length-tabulate c.loop-t.t _ in
-    let few = c.len-t-end.ensures.few in
-    omega arith
-
--- the product of the row with the next column
-coefficient_is : (g : Over) (c : After-rounded_column-product g) → total g.row.N (λ l. entry g.row.N c.args.c_row.now 0 l *ℤ column_entry c.self.inside.cols l c.loop-t.t) ≡ raw_coefficient g.row.N c.args.c_row.now c.args.self.now c.loop-t.t
-coefficient_is g c = first_row g.row.N c.args.c_row.now (λ l. column_entry c.self.inside.cols l c.loop-t.t) ∙ ap (λ (z : Zono). raw_coefficient g.row.N c.args.c_row.now z c.loop-t.t) c.self.view_is
-
-nearest_is : (g : Over) (c : After-rounded_column-product g) → to_z w128 (of_z w128 c.rounded_column-product.result.nearest) ≡ rnd (raw_coefficient g.row.N c.args.c_row.now c.args.self.now c.loop-t.t)
-nearest_is g c = back c.rounded_column-product.result.nearest (let h = c.rounded_column-product.ensures.within in omega arith) ∙ c.rounded_column-product.ensures.nearest ∙ ap rnd (coefficient_is g c)
-
-pub unwrap-requires : goal.unwrap-requires
-unwrap-requires g c =
-    let here = (goal.at.unwrap-requires g c).After-rounded_column-product in
-    let f : ℕ → ℤ = λ t. rnd (raw_coefficient g.row.N c.args.c_row.now c.args.self.now t) in
-    let count = c.len-t-end.ensures.value ∙ ap (λ (z : Zono). length z.columns) c.self.view_is in
-    let prefix = total-prefix (c.loop-t.t + 1) (length c.args.self.now.columns) f (omega arith) in
-    let more = total-more c.loop-t.t (λ t. magnitude (f t)) in
-    let held = ap (sum_by unsigned_abs) c.loop-t.invariant.made in
-    let sum = sum_by-tabulate c.loop-t.t f in
-    let spread = c.output_middle-middle.ensures.spread in
-    let value = ap unsigned_abs (nearest_is g here) in
-    ok_unless c.push.result _ c.push.ensures.refused.0 (λ past. omega (arith, ints))
-
-pub loop-t-init : goal.loop-t-init
-loop-t-init g c = record { made = c.clear.ensures; left = sym (total-zero _); left_high = omega arith }
-
--- what the rounding leaves of the next coefficient
-left_is : (g : Over) (c : After-rounded_column-product g) → pos (unsigned_abs (to_z w128 (of_z w128 c.rounded_column-product.result.residue))) ≡ residue (raw_coefficient g.row.N c.args.c_row.now c.args.self.now c.loop-t.t)
-left_is g c = left_back c.rounded_column-product.result.residue c.rounded_column-product.ensures.low c.rounded_column-product.ensures.half ∙ c.rounded_column-product.ensures.residue ∙ ap residue (coefficient_is g c)
-
-pub loop-t-preserved : goal.loop-t-preserved
-loop-t-preserved g c =
-    let here = (goal.at.loop-t-preserved g c).After-rounded_column-product in
-    let high = c.loop-t.invariant.left_high in
-    let half = c.rounded_column-product.ensures.half in
-    let same = left_back c.rounded_column-product.result.residue c.rounded_column-product.ensures.low half in
-    let items = rw c.unwrap.ensures at c.push.ensures.ok in
-    record {
-      made = pushes [] _ _ _ _ _ c.loop-t.invariant.made items (nearest_is g here);
-      left = next_sum (pos c.loop-t.left) (pos (unsigned_abs (to_z w128 (of_z w128 c.rounded_column-product.result.residue)))) c.loop-t.t (λ t. residue (raw_coefficient g.row.N c.args.c_row.now c.args.self.now t)) c.loop-t.invariant.left (left_is g here);
-      left_high = omega (arith, ints, high, half, same);
-    }
+use Rattle.zono_set.proofs.zono.Zono.fill_strip_row.Goals.{After-narrow_ceil}
 
 middle_residue : (g : Over) (c : After-narrow_ceil g) → c.output_middle-middle.result.residue ≡ residue (raw_output g.row.N c.args.c_row.now c.args.du c.args.self.now)
 middle_residue g c = c.output_middle-middle.ensures.residue ∙ ap (λ d. residue (raw_output g.row.N c.args.c_row.now d c.args.self.now)) (back c.args.du (let h = c.requires.input in omega arith))
@@ -70,10 +24,8 @@ middle_residue g c = c.output_middle-middle.ensures.residue ∙ ap (λ d. residu
 -- what makes up for the rounding
 slack_is : (g : Over) (c : After-narrow_ceil g) → (c.narrow_ceil.result ≡ output_slack g.row.N c.args.c_row.now c.args.du c.args.self.now) × (unsigned_abs c.narrow_ceil.result ≤ 10 ^ 12)
 slack_is g c =
-    let count = c.len-t-end.ensures.value ∙ ap (λ (z : Zono). length z.columns) c.self.view_is in
-    let end : c.loop-t.t ≡ length c.args.self.now.columns = omega arith in
     let middle = left_back c.output_middle-middle.result.residue c.output_middle-middle.ensures.low c.output_middle-middle.ensures.half ∙ middle_residue g c in (
-      c.narrow_ceil.ensures.value ∙ (λ i. ceil_s (middle i +ℤ (c.loop-t.invariant.left ∙ ap (λ n. total n (λ t. residue (raw_coefficient g.row.N c.args.c_row.now c.args.self.now t))) end) i)),
+      c.narrow_ceil.ensures.value ∙ (λ i. ceil_s (middle i +ℤ c.fill_coefficients-left.ensures.left i)),
       c.narrow_ceil.ensures.within,
     )
 
@@ -91,37 +43,32 @@ overflow_add-f g c =
     let s = (slack_is g c).1 in
     omega (arith, ints)
 
-pub push-requires-2 : goal.push-requires-2
-push-requires-2 g c =
-    let long = ap length c.loop-t.invariant.made ∙ length-tabulate c.loop-t.t _ in
-    let count = c.len-t-end.ensures.value ∙ ap (λ (z : Zono). length z.columns) c.self.view_is in
+pub push-requires : goal.push-requires
+push-requires g c =
+    let long = ap length c.fill_coefficients-left.ensures.coefficients ∙ length-tabulate (length c.args.self.now.columns) _ in
     let room = c.requires.room in
     omega arith
 
-pub unwrap-requires-2 : goal.unwrap-requires-2
-unwrap-requires-2 g c =
-    let here = (goal.at.unwrap-requires-2 g c).After-narrow_ceil in
+pub unwrap-requires : goal.unwrap-requires
+unwrap-requires g c =
+    let here = (goal.at.unwrap-requires g c).After-narrow_ceil in
     let f : ℕ → ℤ = λ t. rnd (raw_coefficient g.row.N c.args.c_row.now c.args.self.now t) in
-    let count = c.len-t-end.ensures.value ∙ ap (λ (z : Zono). length z.columns) c.self.view_is in
-    let prefix = total-prefix c.loop-t.t (length c.args.self.now.columns) f (omega arith) in
-    let held = ap (sum_by unsigned_abs) c.loop-t.invariant.made in
-    let sum = sum_by-tabulate c.loop-t.t f in
+    let held = ap (sum_by unsigned_abs) c.fill_coefficients-left.ensures.coefficients in
+    let sum = sum_by-tabulate (length c.args.self.now.columns) f in
     let spread = c.output_middle-middle.ensures.spread in
     let value = ap unsigned_abs (last_is g here) in
     let slack = ap unsigned_abs (slack_is g here).0 in
     let small = (slack_is g here).1 in
     let low = c.requires.noise_low in
     let high = c.requires.noise_high in
-    ok_unless c.push-2.result _ c.push-2.ensures.refused.0 (λ past. omega (arith, ints))
+    ok_unless c.push.result _ c.push.ensures.refused.0 (λ past. omega (arith, ints))
 
 pub returns-clause-coefficients : goal.returns-clause-coefficients
 unfolding strip_row
 returns-clause-coefficients g c =
     let here = (goal.at.returns-clause-coefficients g c).After-narrow_ceil in
-    let count = c.len-t-end.ensures.value ∙ ap (λ (z : Zono). length z.columns) c.self.view_is in
-    let end : c.loop-t.t ≡ length c.args.self.now.columns = omega arith in
-    let items = rw c.unwrap-2.ensures at c.push-2.ensures.ok in
-    items ∙ (λ i. (c.loop-t.invariant.made ∙ ap (λ n. tabulate n (λ t. rnd (raw_coefficient g.row.N c.args.c_row.now c.args.self.now t))) end) i ++ last_is g here i ∷ [])
+    let items = rw c.unwrap.ensures at c.push.ensures.ok in
+    items ∙ (λ i. c.fill_coefficients-left.ensures.coefficients i ++ last_is g here i ∷ [])
 
 right_is : (y nearest : ℤ) → unsigned_abs y ≤ 10 ^ 18 → unsigned_abs nearest ≤ 8_100_000_000_000_000_000_000 → to_z w128 (of_z w128 (to_z w128 (of_z w128 y) -ℤ to_z w128 (of_z w128 nearest))) ≡ y -ℤ nearest
 right_is y nearest h k = difference_back y nearest (omega arith) (omega arith)

@@ -3,7 +3,7 @@ use Rattle.set_rules.specs.Sum.{total}
 use Rattle.set_rules.specs.Columns.{tabulate}
 use Rattle.set_rules.specs.Round.{rnd, residue}
 use Rattle.set_rules.specs.Strip.{raw_coefficient}
-use Rattle.zono_set.proofs.zono.Zono.fill_strip_row.Given as goal
+use Rattle.zono_set.proofs.zono.Zono.fill_wide.Given as goal
 
 abbrev pub invariant-loop-t : goal.invariant-loop-t
 invariant-loop-t g l = record {
