@@ -153,6 +153,31 @@ fn a_reading_that_spreads_is_not_used(rt: HostRuntime) -> Result<(), Fail> {
     Ok(())
 }
 
+/// A gain of the wrong sign spreads the set, whether the unrounded shares fit 64 bits or not.
+#[test]
+fn a_gain_of_the_wrong_sign_is_not_used(rt: HostRuntime) -> Result<(), Fail> {
+    for reach in [ONE, 20 * ONE] {
+        let centre: Mat<1, 1, Range> = Mat::zero();
+        let mut radius: Mat<1, 1, Range> = Mat::zero();
+        radius.set(0, 0, reach)?;
+        assert!(rt; radius.at(0, 0) >= 0);
+        let Ok(mut z) = Zono::of_box(&centre, &radius) else {
+            return Err("refused".into());
+        };
+        let mut a = Coefs::new();
+        a.push(ONE)?;
+        a.push(NOISE)?;
+        let mut gain: Mat<1, 1, Coef> = Mat::zero();
+        gain.set(0, 0, -990_099_009)?;
+        assert!(rt; z.cols().len() == 1);
+        assert!(rt; a.len() == 2);
+        assert_eq!(rt; z.substitute(&a, HALF, &gain), Used::No);
+        assert_eq!(rt; z.cols().len(), 1);
+        assert_eq!(rt; z.cols().mag(0), reach);
+    }
+    Ok(())
+}
+
 #[test]
 fn a_new_symbol_moves_no_state(rt: HostRuntime) -> Result<(), Fail> {
     let centre: Mat<1, 1, Range> = Mat::zero();

@@ -36,6 +36,8 @@ pub struct Zono<const N: usize> {
     cols: Cols<N>,
     radii: Mat<N, 1, Range>,
     rest: [[i64; 128]; 8],
+    /// From 0 to 7: one more for each row that was refused, one less for each that was taken.
+    refusals: u8,
 }
 
 impl<const N: usize> Model for Zono<N> {
@@ -76,6 +78,7 @@ impl<const N: usize> Zono<N> {
             cols,
             radii: r.copy(),
             rest: [[0; 128]; 8],
+            refusals: 4,
         })
     }
 

@@ -26,6 +26,7 @@ pub enum Used {
 impl<const N: usize> Zono<N> {
     /// Takes `gain[i]` times the row `a * symbols = b` from each state `i`, where no state then reaches past `RANGE` and the sum of the radii grows no greater.
     /// A coefficient past the last column belongs to a new symbol with a zero column.
+    /// A set that refused most rows of late looks at the unrounded shares first.
     pub fn substitute(&mut self, a: &Coefs, b: i128, gain: &Mat<N, 1, Coef>) -> Used
         requires row { (length a.now ≡ length self.old.columns) ⊎ (length a.now ≡ length self.old.columns + 1) }
         requires right { unsigned_abs b ≤ 10 ^ 22 }
@@ -35,7 +36,8 @@ impl<const N: usize> Zono<N> {
         ensures keeps { (result ≡ used_where true) → HoldsRow N (record { coefficients = a.now; right = b }) self.old self.new }
     {
         let before = self.spread();
-        if self.surely_spreads(before, a, gain) {
+        if self.refusals > 3 && self.surely_spreads(before, a, gain) {
+            self.refusals = self.refusals.saturating_add(1).min(7);
             return Used::No;
         }
         let count = self.cols.len();
@@ -43,8 +45,10 @@ impl<const N: usize> Zono<N> {
         let Some(ahead) = look_ahead(&self.centre, &self.cols, before, a, b, gain, &mut self.rest)
         else {
             self.cols.truncate(count);
+            self.refusals = self.refusals.saturating_add(1).min(7);
             return Used::No;
         };
+        self.refusals = self.refusals.saturating_sub(1);
         self.centre.replace(&ahead.centre);
         self.radii.replace(&ahead.sizes);
         take_rest(&self.rest, &mut self.cols);
