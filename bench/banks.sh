@@ -1,5 +1,5 @@
 #!/bin/sh
-# Instructions of one row, and the peak memory, for three banks and for one model of one state, counted by callgrind.
+# Instructions of one row, and the peak memory, for four banks and for one model of one state, counted by callgrind.
 # Usage: bench/banks.sh [ROWS] [PROFILE]; needs rt, valgrind, and awk. With PROFILE, the functions that take most in the largest bank are listed.
 set -eu
 rows=${1:-20}
@@ -76,7 +76,8 @@ row() {
 }
 
 row "1 model of 1 state, half of the readings lost" 1 1 0 1 0 2
-row "3 models of 2 states" 3 2 1 2 2 0
+row "3 models of 2 states, 1 output" 3 2 1 1 2 0
+row "3 models of 2 states, 2 outputs" 3 2 1 2 2 0
 row "4 models of 4 states, 2 outputs" 4 4 1 2 4 0
 row "16 models of 8 states, 6 outputs, 4 inputs, 8 disturbances" 16 8 4 6 8 0
 [ "${2:-}" = "" ] || callgrind_annotate --threshold=100 "$work/counts" | sed -n '/Ir/,$p' | head -n "$2"
