@@ -1,16 +1,16 @@
 //! The coefficients of a row, whose magnitudes add up to a bounded sum.
 
-ghost use Rattle.std.specs.Prelude.{◌≡◌, ℕ, ◌+◌, ◌<◌, ◌≤◌, ◌↔◌, [], ◌∷◌, ◌++◌, length, unsigned_abs, pos, ◌*ℤ◌, IsErr, IfErr, OnOk, OnErr};
+ghost use Rattle.std.specs.Prelude.{◌≡◌, ℕ, ◌+◌, ◌<◌, ◌≤◌, ◌↔◌, [], ◌∷◌, ◌++◌, length, unsigned_abs, pos, ◌*ℤ◌, ◌≤ℤ◌, IsErr, IfErr, OnOk, OnErr};
 ghost use Rattle.std.specs.List.{sum_by};
-ghost use Rattle.set_rules.specs.Sum.{total};
-ghost use Rattle.set_rules.specs.Columns.{at, entry, column_entry, tabulate};
-ghost use Rattle.set_rules.specs.Round.{rnd as rnd_of, residue as residue_of};
-ghost use Rattle.fixed_mat.specs.Narrow.{IsNarrow};
+ghost use Rattle.set_rules.specs.Columns.{at};
+ghost use Rattle.set_rules.specs.Limits.{row_limit, most_columns};
+ghost use Rattle.set_rules.specs.Products.{rounded_row, rounded_size, row_residue};
+ghost use Rattle.fixed_mat.specs.Fits.{FitsRow};
 
 use crate::cols::Cols;
 use crate::mat::{Coef, Mat, OverLimit};
-use crate::products::narrow_row_times_column;
-use crate::round::narrow_rounding;
+use crate::products::column_product;
+use crate::whole::Whole;
 use arrayvec::ArrayVec;
 use std::marker::Model;
 
@@ -55,8 +55,8 @@ impl Coefs {
     /// How many coefficients there are.
     pub fn len(&self) -> usize
         ensures value { result ≡ length self.now }
-        ensures few { result ≤ 128 }
-        ensures small { sum_by unsigned_abs self.now ≤ 10_000_000_000_000_000_000_000 }
+        ensures few { result ≤ most_columns }
+        ensures small { sum_by unsigned_abs self.now ≤ row_limit }
     {
         self.items.len()
     }
@@ -65,7 +65,7 @@ impl Coefs {
     pub fn at(&self, t: usize) -> i128
         requires { t < length self.now }
         ensures value { result ≡ at self.now t }
-        ensures within { unsigned_abs result ≤ 10_000_000_000_000_000_000_000 }
+        ensures within { unsigned_abs result ≤ row_limit }
     {
         self.items[t]
     }
@@ -73,15 +73,15 @@ impl Coefs {
     /// The sum of the magnitudes, at most `ROW`.
     pub fn sum(&self) -> u128
         ensures value { result ≡ sum_by unsigned_abs self.now }
-        ensures within { result ≤ 10_000_000_000_000_000_000_000 }
+        ensures within { result ≤ row_limit }
     {
         self.sum
     }
 
     /// Appends `v`, where the magnitudes still add up to at most `ROW`.
     pub fn push(&mut self, v: i128) -> Result<(), OverLimit>
-        requires { length self.old < 128 }
-        ensures refused { IsErr result ↔ (10_000_000_000_000_000_000_000 < sum_by unsigned_abs self.old + unsigned_abs v) }
+        requires { length self.old < most_columns }
+        ensures refused { IsErr result ↔ (row_limit < sum_by unsigned_abs self.old + unsigned_abs v) }
         ensures ok { OnOk result (self.new ≡ self.old ++ v ∷ []) }
         ensures err { IfErr result (λ e. e.v ≡ v) }
         ensures unchanged { OnErr result (self.new ≡ self.old) }
@@ -95,57 +95,66 @@ impl Coefs {
         Ok(())
     }
 
-    /// Puts row `r` of `m` times each column, rounded, in the place of all coefficients, where the products fit 64 bits; gives the sum of what the rounding leaves.
-    pub fn fill_narrow<const R: usize, const N: usize>(
+    /// Puts row `r` of `m` times each column, rounded, in the place of all coefficients, in the width of `W`, in which the products and the sum of their rounded magnitudes fit;
+    /// gives the sum of what the rounding leaves.
+    pub fn fill<W: Whole, const R: usize, const N: usize>(
         &mut self,
         m: &Mat<R, N, Coef>,
         r: usize,
         cols: &Cols<N>,
     ) -> u64
         requires row { r < R }
-        requires narrow { (t : ℕ) → t < length cols.now → IsNarrow N m.now r cols.now t }
-        ensures coefficients { self.new ≡ tabulate (length cols.now) (λ t. rnd_of (total N (λ l. entry N m.now r l *ℤ column_entry cols.now l t))) }
-        ensures left { pos result ≡ total (length cols.now) (λ t. residue_of (total N (λ l. entry N m.now r l *ℤ column_entry cols.now l t))) }
+        requires fits { FitsRow W.limit N m.now r cols.now }
+        requires sizes { rounded_size N m.now r cols.now ≤ℤ pos W.limit }
+        requires small { rounded_size N m.now r cols.now ≤ℤ pos row_limit }
+        ensures coefficients { self.new ≡ rounded_row N m.now r cols.now }
+        ensures left { pos result ≡ row_residue N m.now r cols.now }
         ensures little { result ≤ 64_000_000_000 }
     {
-        let sums = push_products(m, r, cols, &mut self.items);
-        self.sum = u128::from(sums.size);
+        let sums = push_products::<W, R, N>(m, r, cols, &mut self.items);
+        self.sum = sums.size.unsigned_abs();
         sums.left
     }
 }
 
 /// Over the rounded products of a row with all columns: the sum of their magnitudes, and of what the rounding leaves.
 #[derive(Drop)]
-struct NarrowSums {
-    size: u64,
+struct ProductSums {
+    size: i128,
     left: u64,
 }
 
 /// Puts the rounded products of row `r` of `m` with each column in the place of all items.
-fn push_products<const R: usize, const N: usize>(
+fn push_products<W: Whole, const R: usize, const N: usize>(
     m: &Mat<R, N, Coef>,
     r: usize,
     cols: &Cols<N>,
     items: &mut ArrayVec<i128, 128>,
-) -> NarrowSums
+) -> ProductSums
     requires row { r < R }
-    requires narrow { (t : ℕ) → t < length cols.now → IsNarrow N m.now r cols.now t }
-    ensures items { items.new.items ≡ tabulate (length cols.now) (λ t. rnd_of (total N (λ l. entry N m.now r l *ℤ column_entry cols.now l t))) }
-    ensures few { length items.new.items ≤ 128 }
-    ensures size { result.size ≡ sum_by unsigned_abs items.new.items }
-    ensures left { pos result.left ≡ total (length cols.now) (λ t. residue_of (total N (λ l. entry N m.now r l *ℤ column_entry cols.now l t))) }
+    requires fits { FitsRow W.limit N m.now r cols.now }
+    requires sizes { rounded_size N m.now r cols.now ≤ℤ pos W.limit }
+    ensures items { items.new.items ≡ rounded_row N m.now r cols.now }
+    ensures few { length items.new.items ≤ most_columns }
+    ensures size { result.size ≡ pos (sum_by unsigned_abs items.new.items) }
+    ensures size_is { result.size ≡ rounded_size N m.now r cols.now }
+    ensures left { pos result.left ≡ row_residue N m.now r cols.now }
     ensures little { result.left ≤ 64_000_000_000 }
 {
     items.clear();
-    let mut size: u64 = 0;
+    let mut size = W::zero();
     let mut left: u64 = 0;
     for t in 0..cols.len() {
-        let product = narrow_rounding(narrow_row_times_column(m, r, cols, t));
-        items.push(i128::from(product.nearest));
-        size += product.nearest.unsigned_abs();
+        let sum: W = column_product(m, r, cols, t);
+        let product = sum.rounded();
+        items.push(product.nearest.wide());
+        size = size.plus(product.nearest.size());
         left += product.residue;
     }
-    NarrowSums { size, left }
+    ProductSums {
+        size: size.wide(),
+        left,
+    }
 }
 
 impl Default for Coefs {

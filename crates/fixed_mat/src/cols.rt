@@ -4,6 +4,8 @@ ghost use Rattle.std.specs.Prelude.{◌≡◌, ℕ, ◌+◌, ◌*◌, ◌<◌, �
 ghost use Rattle.std.specs.List.{All};
 ghost use Rattle.set_rules.specs.Columns.{entry, column_entry, row_magnitude, tabulate};
 ghost use Rattle.set_rules.specs.Symbols.{diagonal};
+ghost use Rattle.set_rules.specs.Zono.{range};
+ghost use Rattle.set_rules.specs.Limits.{most_columns, most_states};
 
 use crate::mat::{Mat, Range};
 use arrayvec::ArrayVec;
@@ -12,7 +14,7 @@ use std::marker::Model;
 /// At most 128 columns of `N` entries, from 1 to 8, each within `10 ^ 18`.
 #[derive(Drop)]
 pub struct Cols<const N: usize> {
-    cells: ArrayVec<i128, 1024>,
+    cells: ArrayVec<i64, 1024>,
     count: usize,
 }
 
@@ -32,7 +34,7 @@ impl<const N: usize> Cols<N> {
     /// No columns.
     pub fn new() -> Self
         requires low { 1 ≤ N }
-        requires high { N ≤ 8 }
+        requires high { N ≤ most_states }
         ensures { result ≡ [] }
     {
         Cols {
@@ -44,37 +46,44 @@ impl<const N: usize> Cols<N> {
     /// How many columns there are.
     pub fn len(&self) -> usize
         ensures value { result ≡ length self.now }
-        ensures few { result ≤ 128 }
+        ensures few { result ≤ most_columns }
         ensures height_positive { 1 ≤ N }
-        ensures height_small { N ≤ 8 }
+        ensures height_small { N ≤ most_states }
     {
         self.count
     }
 
+    /// Tells the limit that the entries keep by their type.
+    pub fn tell(&self)
+        ensures { (i t : ℕ) → unsigned_abs (column_entry self.now i t) ≤ range }
+    {
+        let _ = &self.cells;
+    }
+
     /// The entry of column `t` in row `i`.
-    pub fn at(&self, i: usize, t: usize) -> i128
+    pub fn at(&self, i: usize, t: usize) -> i64
         requires row { i < N }
         requires column { t < length self.now }
         ensures value { result ≡ column_entry self.now i t }
-        ensures within { unsigned_abs result ≤ 1_000_000_000_000_000_000 }
+        ensures within { unsigned_abs result ≤ range }
     {
         self.cells[t * N + i]
     }
 
     /// The entries of column `t`.
-    pub fn column(&self, t: usize) -> &[i128]
+    pub fn column(&self, t: usize) -> &[i64]
         requires { t < length self.now }
         ensures value { result.now ≡ slice_index_or self.now t [] }
         ensures size { length result.now ≡ N }
-        ensures height_small { N ≤ 8 }
-        ensures within { All (λ z. unsigned_abs z ≤ 1_000_000_000_000_000_000) result.now }
+        ensures height_small { N ≤ most_states }
+        ensures within { All (λ z. unsigned_abs z ≤ range) result.now }
     {
         &self.cells[t * N..t * N + N]
     }
 
     /// Appends a column.
     pub fn push(&mut self, col: &Mat<N, 1, Range>)
-        requires { length self.old < 128 }
+        requires { length self.old < most_columns }
         ensures { self.new ≡ self.old ++ col.now ∷ [] }
     {
         self.cells.try_extend_from_slice(col.entries()).unwrap();
@@ -82,10 +91,10 @@ impl<const N: usize> Cols<N> {
     }
 
     /// Appends a column that holds `v` in row `i` and zeros elsewhere.
-    pub fn push_diagonal(&mut self, i: usize, v: i128)
-        requires room { length self.old < 128 }
+    pub fn push_diagonal(&mut self, i: usize, v: i64)
+        requires room { length self.old < most_columns }
         requires row { i < N }
-        requires within { unsigned_abs v ≤ 1_000_000_000_000_000_000 }
+        requires within { unsigned_abs v ≤ range }
         ensures { self.new ≡ self.old ++ tabulate N (λ j. diagonal (λ _. v) j i) ∷ [] }
     {
         for j in 0..N {
@@ -96,7 +105,7 @@ impl<const N: usize> Cols<N> {
 
     /// Appends column `c` of a matrix.
     pub fn push_from<const C: usize>(&mut self, mat: &Mat<N, C, Range>, c: usize)
-        requires room { length self.old < 128 }
+        requires room { length self.old < most_columns }
         requires column { c < C }
         ensures { self.new ≡ self.old ++ tabulate N (λ i. entry C mat.now i c) ∷ [] }
     {
@@ -107,10 +116,10 @@ impl<const N: usize> Cols<N> {
     }
 
     /// Puts `col` in the place of column `t`.
-    pub fn replace(&mut self, t: usize, col: &[i128])
+    pub fn replace(&mut self, t: usize, col: &[i64])
         requires column { t < length self.old }
         requires size { length col.now ≡ N }
-        requires within { All (λ z. unsigned_abs z ≤ 1_000_000_000_000_000_000) col.now }
+        requires within { All (λ z. unsigned_abs z ≤ range) col.now }
         ensures { self.new ≡ slice_set self.old t col.now }
     {
         self.cells[t * N..t * N + N].copy_from_slice(col);
@@ -131,11 +140,11 @@ impl<const N: usize> Cols<N> {
     pub fn mag(&self, i: usize) -> i128
         requires { i < N }
         ensures value { result ≡ row_magnitude self.now i }
-        ensures within { unsigned_abs result ≤ 128 * 1_000_000_000_000_000_000 }
+        ensures within { unsigned_abs result ≤ most_columns * range }
     {
         let mut sum = 0;
         for t in 0..self.len() {
-            sum += i128::from((self.at(i, t) as i64).unsigned_abs());
+            sum += i128::from(self.at(i, t).unsigned_abs());
         }
         sum
     }
@@ -163,10 +172,10 @@ impl<const N: usize> Cols<N> {
 }
 
 /// What row `j` holds of a column with `v` in row `i` alone.
-fn diagonal_entry(i: usize, j: usize, v: i128) -> i128
-    requires { unsigned_abs v ≤ 1_000_000_000_000_000_000 }
+fn diagonal_entry(i: usize, j: usize, v: i64) -> i64
+    requires { unsigned_abs v ≤ range }
     ensures value { result ≡ diagonal (λ _. v) j i }
-    ensures within { unsigned_abs result ≤ 1_000_000_000_000_000_000 }
+    ensures within { unsigned_abs result ≤ range }
 {
     if i == j { v } else { 0 }
 }

@@ -5,15 +5,19 @@ mod coefs;
 mod cols;
 mod mat;
 mod products;
+mod raws;
 mod reading;
 mod round;
+mod whole;
 
 pub use coefs::Coefs;
 pub use cols::Cols;
-pub use mat::{Coef, Limit, Mat, OverLimit, Range, Raw};
-pub use products::{dot, narrow_row_times_column, row_times_column, row_times_vector, times};
+pub use mat::{Coef, Limit, Mat, OverLimit, Range};
+pub use products::{column_product, dot, row_times_vector, tell_products, times};
+pub use raws::Raws;
 pub use reading::Reading;
 pub use round::{NarrowRounding, Rounding, S, ceil_s, narrow_rounding, residue, rnd, rounded};
+pub use whole::{Rounded, Whole};
 
 /// The greatest magnitude of a coefficient of a plant, and of a gain, in nano-units.
 pub const COEF: u128 = 1_000_000_000_000;

@@ -2,7 +2,10 @@
 
 ghost use Rattle.std.specs.Prelude.{◌≡◌, ℕ, ◌+◌, ◌*◌, ◌<◌, ◌≤◌, ◌↔◌, pos, unsigned_abs, replicate, IsErr, IfErr, OnOk, OnErr, slice_set, length};
 ghost use Rattle.std.specs.List.{All};
+ghost use Rattle.std.proofs.Common.{arith};
 ghost use Rattle.set_rules.specs.Columns.{entry};
+ghost use Rattle.set_rules.specs.Zono.{range};
+ghost use Rattle.set_rules.specs.Limits.{coef, narrow_limit};
 
 use arrayvec::ArrayVec;
 use std::marker::{Model, PhantomData};
@@ -12,33 +15,30 @@ pub trait Limit {
     ghost LIM: { ℕ };
 
     const LIM: u128;
+
+    ghost narrow: { LIM ≤ narrow_limit };
 }
 
 /// Entries of a row or a system matrix.
 pub struct Coef;
 
 impl Limit for Coef {
-    ghost LIM = { 1_000_000_000_000 };
+    ghost LIM = { coef };
 
     const LIM: u128 = 1_000_000_000_000;
+
+    ghost narrow = { Prim.omega arith };
 }
 
 /// Entries of a state, a column or a centre.
 pub struct Range;
 
 impl Limit for Range {
-    ghost LIM = { 1_000_000_000_000_000_000 };
+    ghost LIM = { range };
 
     const LIM: u128 = 1_000_000_000_000_000_000;
-}
 
-/// Unrounded products.
-pub struct Raw;
-
-impl Limit for Raw {
-    ghost LIM = { 10_000_000_000_000_000_000_000_000_000 };
-
-    const LIM: u128 = 10_000_000_000_000_000_000_000_000_000;
+    ghost narrow = { Prim.omega arith };
 }
 
 /// The value `v` is past the limit of the place that it was meant for.
@@ -50,7 +50,7 @@ pub struct OverLimit {
 /// `R` rows of `C` entries, each within the limit of `L`.
 #[derive(Drop)]
 pub struct Mat<const R: usize, const C: usize, L: Limit> {
-    cells: ArrayVec<i128, 64>,
+    cells: ArrayVec<i64, 64>,
     limit: PhantomData<L>,
 }
 
@@ -83,7 +83,7 @@ impl<const R: usize, const C: usize, L: Limit> Mat<R, C, L> {
     }
 
     /// The entries, row by row.
-    pub fn entries(&self) -> &[i128]
+    pub fn entries(&self) -> &[i64]
         ensures value { result.now ≡ self.now }
         ensures size { length self.now ≡ R * C }
         ensures small { R * C ≤ 64 }
@@ -105,7 +105,7 @@ impl<const R: usize, const C: usize, L: Limit> Mat<R, C, L> {
     }
 
     /// Puts these entries in the place of all, row by row.
-    pub fn replace(&mut self, entries: &[i128])
+    pub fn replace(&mut self, entries: &[i64])
         requires size { length entries.now ≡ R * C }
         requires within { All (λ z. unsigned_abs z ≤ L.LIM) entries.now }
         ensures { self.new ≡ entries.now }
@@ -114,7 +114,7 @@ impl<const R: usize, const C: usize, L: Limit> Mat<R, C, L> {
     }
 
     /// The entry in row `r` and column `c`.
-    pub fn at(&self, r: usize, c: usize) -> i128
+    pub fn at(&self, r: usize, c: usize) -> i64
         requires row { r < R }
         requires column { c < C }
         ensures value { result ≡ entry C self.now r c }
@@ -135,7 +135,7 @@ impl<const R: usize, const C: usize, L: Limit> Mat<R, C, L> {
         if v.unsigned_abs() > L::LIM {
             return Err(OverLimit { v });
         }
-        self.cells[r * C + c] = v;
+        self.cells[r * C + c] = v as i64;
         Ok(())
     }
 }

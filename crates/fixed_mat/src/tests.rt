@@ -1,6 +1,6 @@
 use crate::{
     COEF, Coef, Coefs, Cols, Mat, OverLimit, Range, ceil_s, dot, residue, rnd, rounded,
-    row_times_column, row_times_vector,
+    row_times_vector,
 };
 use std::test::Fail;
 
@@ -68,7 +68,7 @@ fn columns_are_changed_in_place(rt: HostRuntime) -> Result<(), Fail> {
     let mut row: Mat<1, 2, Coef> = Mat::zero();
     row.replace([2, 3].as_slice());
     assert_eq!(rt; dot(&row, &cols, 0), 38);
-    assert_eq!(rt; row_times_column(&row, 0, &cols, 1), -6);
+    assert_eq!(rt; dot(&row, &cols, 1), -6);
     assert_eq!(rt; row_times_vector(&row, 0, &mat), -6);
     Ok(())
 }
