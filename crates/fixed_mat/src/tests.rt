@@ -37,7 +37,7 @@ fn an_entry_past_the_limit_is_refused(rt: HostRuntime) -> Result<(), Fail> {
             })
         )
     );
-    assert_eq!(rt; mat.at(0, 0), limit);
+    assert_eq!(rt; i128::from(mat.at(0, 0)), limit);
     let mut coefs = Coefs::new();
     coefs.push(-4)?;
     coefs.push(9_999_999_999_999_999_999_996)?;
