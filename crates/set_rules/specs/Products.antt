@@ -1,8 +1,8 @@
 -- A row of a matrix times columns, and a multiple of a row taken from a state, each a unit times too large; and what rounding makes of these.
-use Rattle.std.specs.Prelude.{ℕ, List, length, ℤ, ◌-ℤ◌, ◌*ℤ◌}
+use Rattle.std.specs.Prelude.{ℕ, ◌*◌, List, length, ℤ, pos, ◌+ℤ◌, ◌-ℤ◌, ◌*ℤ◌, unsigned_abs, sum_by}
 use Rattle.set_rules.specs.Sum.{total, magnitude}
-use Rattle.set_rules.specs.Columns.{at, entry, column_entry, tabulate}
-use Rattle.set_rules.specs.Round.{rnd, residue}
+use Rattle.set_rules.specs.Columns.{at, entry, column_entry, row_magnitude, tabulate}
+use Rattle.set_rules.specs.Round.{unit, rnd, residue}
 use Rattle.set_rules.specs.Rows.{Row}
 
 -- row r of a matrix of this width times column t
@@ -32,6 +32,14 @@ moved_column n m g t = tabulate n (λ i. rounded_product n m i g t)
 -- the first n rows times each column, rounded
 abbrev pub moved_columns : (n : ℕ) (m : List ℤ) → List (List ℤ) → List (List ℤ)
 moved_columns n m g = tabulate (length g) (λ t. moved_column n m g t)
+
+-- the entry of column t in row i, less the share that a gain takes of a coefficient, both unrounded
+abbrev pub raw_rest : ℤ → ℤ → ℤ → ℤ
+raw_rest entry gain coefficient = pos unit *ℤ entry -ℤ gain *ℤ coefficient
+
+-- no more than this do the magnitudes of row i and of a gain's shares of the coefficients add up to, unrounded
+abbrev pub raw_bound : List (List ℤ) → ℕ → ℤ → List ℤ → ℤ
+raw_bound g i gain a = pos unit *ℤ row_magnitude g i +ℤ pos (unsigned_abs gain * sum_by unsigned_abs a)
 
 -- the entry of column t in row i, less the share that a gain takes of coefficient t
 abbrev pub rest_of : (g : List (List ℤ)) (i : ℕ) (gain : ℤ) (a : List ℤ) → ℕ → ℤ

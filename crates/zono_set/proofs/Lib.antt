@@ -7,3 +7,5 @@ pub mod Kept
 pub mod Moved
 pub mod Ahead
 pub mod Unrounded
+pub mod Sizes
+pub mod OneRow

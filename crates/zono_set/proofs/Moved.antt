@@ -23,7 +23,7 @@ module _ (n w : ℕ) (a shift e : List ℤ) (z : Zono) (i : ℕ) (h : i < n) whe
       let is = reach-image n w a shift e z i h in
       omega (arith, ints, c, is)
 
-  slack-low : pos 0 ≤ℤ slack n a shift z i
+  pub slack-low : pos 0 ≤ℤ slack n a shift z i
   slack-low =
       let covers = (ceil_s-least (residue (raw_centre n a shift z i) +ℤ total (length z.columns) (λ t. residue (raw_entry n a z i t)))).covers in
       let half = (residue-half (raw_centre n a shift z i)).0 in

@@ -4,10 +4,10 @@ use Rattle.std.proofs.lemmas.Int.{ints}
 use Rattle.set_rules.specs.Sum.{total, magnitude}
 use Rattle.set_rules.specs.Columns.{entry, column_entry, row_magnitude}
 use Rattle.set_rules.proofs.Sums.{total-mono, magnitude-mul, magnitude-le-total}
-use Rattle.zono_set.specs.Narrow.{HasNarrowRow}
+use Rattle.fixed_mat.specs.Fits.{FitsRow}
 
 -- the magnitudes of a row times the radii bound its products with each column
-pub narrow-by-radii : (n : ℕ) (a : List ℤ) (r : ℕ) (g : List (List ℤ)) → total n (λ l. magnitude (entry n a r l) *ℤ row_magnitude g l) ≤ℤ pos 9_000_000_000_000_000_000 → HasNarrowRow n a r g
+pub narrow-by-radii : (n : ℕ) (a : List ℤ) (r : ℕ) (g : List (List ℤ)) → total n (λ l. magnitude (entry n a r l) *ℤ row_magnitude g l) ≤ℤ pos 9_000_000_000_000_000_000 → FitsRow 9_000_000_000_000_000_000 n a r g
 narrow-by-radii n a r g h t below =
     let all = total-mono n (λ l. magnitude (entry n a r l *ℤ column_entry g l t)) (λ l. magnitude (entry n a r l) *ℤ row_magnitude g l)
     (λ l _. one (entry n a r l) (column_entry g l t) (row_magnitude g l) (magnitude-le-total (length g) t (column_entry g l) below)) in

@@ -1,11 +1,11 @@
 -- What rounding gives of numbers that come from their bits.
-use Rattle.std.proofs.Common.{◌≡◌, ℕ, ◌+◌, ◌*◌, ◌^◌, ◌<◌, ◌≤◌, List, [], ◌∷◌, ◌++◌, length, get_or, drop, set, ℤ, pos, ◌+ℤ◌, ◌-ℤ◌, ◌*ℤ◌, ◌≤ℤ◌, unsigned_abs, to_z, of_z, SFits, Result, Ok, Err, IsOk, IsErr, arith, refl, sym, ap, ◌∙◌, subst, append_assoc}
-use Rattle.std.proofs.lemmas.Int.{ints}
+use Rattle.std.proofs.Common.{◌≡◌, ℕ, ◌+◌, ◌*◌, ◌^◌, ◌<◌, ◌≤◌, List, [], ◌∷◌, ◌++◌, length, get_or, drop, set, ℤ, pos, ◌+ℤ◌, ◌-ℤ◌, ◌*ℤ◌, ◌≤ℤ◌, unsigned_abs, to_z, of_z, to_z-of_z, SFits, Result, Ok, Err, IsOk, IsErr, arith, refl, sym, ap, ◌∙◌, subst, append_assoc}
+use Rattle.std.proofs.lemmas.Int.{ints, fits_signed_from_abs}
 use Rattle.std.proofs.lemmas.List.{drop_more, set_at, get_or_at}
 use Rattle.std.proofs.lemmas.List.FromFn.{map-range_with_len_more, length-map-range_with_len, get_or-map-range_with_len}
 use Rattle.std.proofs.lemmas.List.Elements.{All-from_get_or}
 use Rattle.std.specs.List.{All}
-use mir.Syntax.{w128}
+use mir.Syntax.{w64, w128}
 use Rattle.set_rules.specs.Sum.{total, magnitude}
 use Rattle.set_rules.specs.Round.{rnd, residue, ceil_s}
 use Rattle.set_rules.specs.Columns.{at, entry, tabulate}
@@ -116,3 +116,34 @@ module _ (old : List (List ℤ)) (f : ℕ → List ℤ) (t : ℕ) (h : t < lengt
       ap (λ xs. set xs t v) opened ∙ set_at (tabulate t f) (get_or old t []) (drop (t + 1) old) v t (length-map-range_with_len f 0 t)
       ∙ (λ i. tabulate t f ++ e i ∷ drop (t + 1) old) ∙ sym (append_assoc (tabulate t f) (f t ∷ []) (drop (t + 1) old))
       ∙ ap (λ xs. xs ++ drop (t + 1) old) (sym (map-range_with_len_more f 0 t t (omega arith)))
+
+-- a number of at most 19 digits fits 64 bits, and comes back from them
+pub fits64 : (z : ℤ) → unsigned_abs z ≤ 9_200_000_000_000_000_000 → SFits w64 z
+fits64 z h = fits_signed_from_abs w64 z (omega arith)
+
+pub back64 : (z : ℤ) → unsigned_abs z ≤ 9_200_000_000_000_000_000 → to_z w64 (of_z w64 z) ≡ z
+back64 z h = to_z-of_z (fits64 z h)
+
+-- a magnitude of a number of 64 bits
+pub abs64 : (x v b : ℤ) → SFits w64 x → b ≡ pos (unsigned_abs (to_z w64 (of_z w64 x))) → x ≡ v → b ≡ magnitude v
+abs64 x v b fits e is = e ∙ ap magnitude (to_z-of_z fits ∙ is)
+
+-- sums and differences of two numbers of 64 bits
+pub sum64 : (x y : ℤ) → unsigned_abs x ≤ 9_200_000_000_000_000_000 → unsigned_abs y ≤ 9_200_000_000_000_000_000 → unsigned_abs (x +ℤ y) ≤ 9_200_000_000_000_000_000
+    → to_z w64 (of_z w64 (to_z w64 (of_z w64 x) +ℤ to_z w64 (of_z w64 y))) ≡ x +ℤ y
+sum64 x y h k l = ap (λ z. to_z w64 (of_z w64 z)) (λ i. back64 x h i +ℤ back64 y k i) ∙ back64 (x +ℤ y) l
+
+pub difference64 : (x y : ℤ) → unsigned_abs x ≤ 9_200_000_000_000_000_000 → unsigned_abs y ≤ 9_200_000_000_000_000_000 → unsigned_abs (x -ℤ y) ≤ 9_200_000_000_000_000_000
+    → to_z w64 (of_z w64 (to_z w64 (of_z w64 x) -ℤ to_z w64 (of_z w64 y))) ≡ x -ℤ y
+difference64 x y h k l = ap (λ z. to_z w64 (of_z w64 z)) (λ i. back64 x h i -ℤ back64 y k i) ∙ back64 (x -ℤ y) l
+
+-- a number of 128 bits that is this one, brought to 64 bits
+module _ (z v : ℤ) (is : z ≡ v) (small : unsigned_abs v ≤ 9_200_000_000_000_000_000) where
+  wide_is : to_z w128 (of_z w128 z) ≡ v
+  wide_is = fold z v is (omega arith)
+
+  pub narrow_fits : SFits w64 (to_z w128 (of_z w128 z))
+  narrow_fits = subst (SFits w64) (sym wide_is) (fits64 v small)
+
+  pub narrowed : to_z w64 (of_z w64 (to_z w128 (of_z w128 z))) ≡ v
+  narrowed = ap (λ x. to_z w64 (of_z w64 x)) wide_is ∙ back64 v small

@@ -13,7 +13,7 @@ use Rattle.set_rules.specs.Gain.{substitution, spread}
 use Rattle.set_rules.proofs.Sums.{total-more, total-same, total-add, total-scale, total-mono, total-magnitudes-low, magnitude-mul, magnitude-le-total}
 use Rattle.set_rules.proofs.Rounds.{ceil_s-least}
 use Rattle.set_rules.proofs.SubstitutionHolds.{size-substitution}
-use Rattle.fixed_mat.proofs.Bits64.{total-prefix}
+use Rattle.fixed_mat.proofs.Fits.{total-prefix}
 use Rattle.zono_set.proofs.Bound.{residue-half, sum_by-tabulate}
 use Rattle.zono_set.proofs.Taken.{nothing-at, nothing-past}
 

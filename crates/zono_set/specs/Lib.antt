@@ -1,5 +1,4 @@
 pub mod Bound
 pub mod Holds
 pub mod Kept
-pub mod Narrow
 pub mod Used

@@ -3,8 +3,10 @@
 #![tactic(auto)]
 
 mod products;
+mod room;
 mod zono;
 
+pub use room::{Refusals, Rest};
 pub use zono::{PastRange, StripRow, Used, Zono};
 
 #[cfg(test)]

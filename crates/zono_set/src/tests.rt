@@ -1,5 +1,5 @@
 use crate::{PastRange, Used, Zono};
-use fixed_mat::{Coef, Coefs, Cols, Mat, Range, Raw};
+use fixed_mat::{Coef, Coefs, Cols, Mat, Range, Raws};
 use std::test::Fail;
 
 /// A plant of one state: half of it stays, and it is read with noise within 0.1 units.
@@ -54,7 +54,7 @@ fn halves_are_made_up_for(rt: HostRuntime) -> Result<(), Fail> {
     z.set_cols(cols);
     let mut a: Mat<1, 1, Coef> = Mat::zero();
     a.set(0, 0, HALF)?;
-    let shift: Mat<1, 1, Raw> = Mat::zero();
+    let shift: Raws<1> = Raws::zero();
     let e: Mat<1, 8, Range> = Mat::zero();
     assert!(rt; z.cols().len() == 3);
     assert!(rt; z.image(&a, &shift, &e, 0).is_ok());
@@ -78,7 +78,7 @@ fn an_image_past_the_range_is_refused(rt: HostRuntime) -> Result<(), Fail> {
     };
     let mut a: Mat<1, 1, Coef> = Mat::zero();
     a.set(0, 0, 1_000 * ONE)?;
-    let shift: Mat<1, 1, Raw> = Mat::zero();
+    let shift: Raws<1> = Raws::zero();
     let e: Mat<1, 8, Range> = Mat::zero();
     assert!(rt; z.cols().len() == 1);
     assert!(rt;

@@ -9,7 +9,8 @@ mod unrounded;
 ghost use Rattle.std.specs.Prelude.{◌≡◌, ℕ, ◌+◌, ◌<◌, ◌≤◌, length, ℤ, pos, ◌+ℤ◌, ◌≤ℤ◌, unsigned_abs, IfOk, IfErr, OnOk, OnErr};
 ghost use Rattle.set_rules.specs.Sum.{magnitude};
 ghost use Rattle.set_rules.specs.Columns.{at, column_entry, row_magnitude, tabulate};
-ghost use Rattle.set_rules.specs.Zono.{reach, InRange};
+ghost use Rattle.set_rules.specs.Zono.{reach, range, InRange};
+ghost use Rattle.set_rules.specs.Limits.{most_columns, most_states};
 ghost use Rattle.set_rules.specs.Box.{box, hull as hull_of};
 ghost use Rattle.set_rules.specs.Reduce.{greatest, reduce_set};
 ghost use Rattle.set_rules.specs.Image.{IsFirstPast};
@@ -35,9 +36,6 @@ pub struct Zono<const N: usize> {
     centre: Mat<N, 1, Range>,
     cols: Cols<N>,
     radii: Mat<N, 1, Range>,
-    rest: [[i64; 128]; 8],
-    /// From 0 to 7: one more for each row that was refused, one less for each that was taken.
-    refusals: u8,
 }
 
 impl<const N: usize> Model for Zono<N> {
@@ -56,7 +54,7 @@ impl<const N: usize> Zono<N> {
     /// The box with centre `c` and radii `r`, refused where it reaches past `RANGE`.
     pub fn of_box(c: &Mat<N, 1, Range>, r: &Mat<N, 1, Range>) -> Result<Self, PastRange>
         requires low { 1 ≤ N }
-        requires high { N ≤ 8 }
+        requires high { N ≤ most_states }
         requires radii { (i : ℕ) → i < N → pos 0 ≤ℤ at r.now i }
         ensures value { IfOk result (λ z. z ≡ box N c.now r.now) }
         ensures in_range { OnOk result (InRange N (box N c.now r.now)) }
@@ -66,7 +64,10 @@ impl<const N: usize> Zono<N> {
         for i in 0..N {
             let mag = c.at(i, 0).abs() + r.at(i, 0);
             if mag > 1_000_000_000_000_000_000 {
-                return Err(PastRange { i, mag });
+                return Err(PastRange {
+                    i,
+                    mag: i128::from(mag),
+                });
             }
         }
         let mut cols = Cols::new();
@@ -77,8 +78,6 @@ impl<const N: usize> Zono<N> {
             centre: c.copy(),
             cols,
             radii: r.copy(),
-            rest: [[0; 128]; 8],
-            refusals: 4,
         })
     }
 
@@ -86,9 +85,9 @@ impl<const N: usize> Zono<N> {
     pub fn centre(&self, i: usize) -> i128
         requires { i < N }
         ensures value { result ≡ at self.now.centre i }
-        ensures within { unsigned_abs result ≤ 1_000_000_000_000_000_000 }
+        ensures within { unsigned_abs result ≤ range }
     {
-        self.centre.at(i, 0)
+        i128::from(self.centre.at(i, 0))
     }
 
     /// The columns.
@@ -103,30 +102,30 @@ impl<const N: usize> Zono<N> {
     pub fn hull(&self, i: usize) -> (i128, i128)
         requires { i < N }
         ensures value { result ≡ hull_of self.now i }
-        ensures low { unsigned_abs result.0 ≤ 1_000_000_000_000_000_000 }
-        ensures high { unsigned_abs result.1 ≤ 1_000_000_000_000_000_000 }
+        ensures low { unsigned_abs result.0 ≤ range }
+        ensures high { unsigned_abs result.1 ≤ range }
         ensures holds { HoldsState N self.now i result }
     {
         let centre = self.centre.at(i, 0);
         let radius = self.radius(i);
-        (centre - radius, centre + radius)
+        (i128::from(centre - radius), i128::from(centre + radius))
     }
 
     /// How far the set reaches from 0 in state `i`.
-    fn reach(&self, i: usize) -> i128
+    fn reach(&self, i: usize) -> i64
         requires { i < N }
         ensures value { result ≡ reach self.now i }
-        ensures within { unsigned_abs result ≤ 1_000_000_000_000_000_000 }
-        ensures states { N ≤ 8 }
+        ensures within { unsigned_abs result ≤ range }
+        ensures states { N ≤ most_states }
     {
         self.centre.at(i, 0).abs() + self.radius(i)
     }
 
     /// How far the set reaches from its centre in state `i`: the sum of the magnitudes there, which is kept.
-    fn radius(&self, i: usize) -> i128
+    fn radius(&self, i: usize) -> i64
         requires { i < N }
         ensures value { result ≡ row_magnitude self.now.columns i }
-        ensures within { unsigned_abs result ≤ 1_000_000_000_000_000_000 }
+        ensures within { unsigned_abs result ≤ range }
     {
         self.radii.at(i, 0)
     }
@@ -135,7 +134,7 @@ impl<const N: usize> Zono<N> {
     pub fn greatest_radius(&self) -> u64
         ensures value { result ≡ greatest (tabulate N (row_magnitude self.now.columns)) }
         ensures entries { (i t : ℕ) → i < N → unsigned_abs (column_entry self.now.columns i t) ≤ result }
-        ensures within { result ≤ 1_000_000_000_000_000_000 }
+        ensures within { result ≤ range }
     {
         let _ = self.cols.len();
         let mut greatest = 0;
@@ -147,7 +146,7 @@ impl<const N: usize> Zono<N> {
 
     /// Puts other columns in the place of all.
     pub fn set_cols(&mut self, g: Cols<N>)
-        requires { (i : ℕ) → i < N → (magnitude (at self.old.centre i) +ℤ row_magnitude g i) ≤ℤ pos 1_000_000_000_000_000_000 }
+        requires { (i : ℕ) → i < N → (magnitude (at self.old.centre i) +ℤ row_magnitude g i) ≤ℤ pos range }
         ensures { self.new ≡ record { centre = self.old.centre; columns = g.entry } }
     {
         self.radii.replace(&magnitudes(&g));
@@ -157,7 +156,7 @@ impl<const N: usize> Zono<N> {
     /// Reduces the columns to at most `max` in place: `girard_reduce::reduce_in_place`.
     pub fn reduce(&mut self, max: usize)
         requires low { N ≤ max }
-        requires high { max ≤ 128 }
+        requires high { max ≤ most_columns }
         ensures value { self.new ≡ reduce_set N max self.old }
         ensures holds { HoldsSet N self.old self.new }
     {
@@ -166,13 +165,14 @@ impl<const N: usize> Zono<N> {
 }
 
 /// The sum of the magnitudes in each state.
-fn magnitudes<const N: usize>(cols: &Cols<N>) -> ArrayVec<i128, 8>
+fn magnitudes<const N: usize>(cols: &Cols<N>) -> ArrayVec<i64, 8>
+    requires { (i : ℕ) → i < N → row_magnitude cols.now i ≤ℤ pos range }
     ensures { result.items ≡ tabulate N (row_magnitude cols.now) }
 {
     let _ = cols.len();
     let mut magnitudes = ArrayVec::new();
     for i in 0..N {
-        magnitudes.push(cols.mag(i));
+        magnitudes.push(cols.mag(i) as i64);
     }
     magnitudes
 }

@@ -1,7 +1,7 @@
-use Rattle.std.proofs.Common.{◌≡◌, ℕ, ◌+◌, ◌*◌, ◌/◌, ◌^◌, ◌≤◌, pos, unsigned_abs, ap, ◌∙◌, arith}
-use Rattle.std.proofs.lemmas.Int.{ints}
+use Rattle.std.proofs.Common.{◌≡◌, ℕ, ◌+◌, ◌*◌, ◌/◌, ◌^◌, ◌≤◌, pos, unsigned_abs, ◌∙◌, arith}
+use Rattle.std.proofs.lemmas.Int.{ints, to_z_pos}
+use mir.Syntax.{w64}
 use Rattle.set_rules.specs.Round.{ceil_s}
-use Rattle.fixed_mat.proofs.Bits.{back}
 use Rattle.set_rules.proofs.Rounds.{ceil_s-least, ceil_s-within}
 use Rattle.zono_set.proofs.products.narrow_ceil.Goals as goal
 
@@ -13,4 +13,4 @@ ceil_is p =
     omega (arith, ints)
 
 pub returns-clause-value : goal.returns-clause-value
-returns-clause-value c = back c.from.result (let is = c.from.ensures in omega (arith, ints)) ∙ c.from.ensures ∙ ceil_is c.args.left
+returns-clause-value c = to_z_pos w64 ((c.args.left + 999_999_999) / 1_000_000_000) (let h = c.requires in omega (arith, h)) ∙ ceil_is c.args.left

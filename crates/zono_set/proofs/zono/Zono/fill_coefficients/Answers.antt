@@ -1,33 +1,51 @@
-use Rattle.std.proofs.Common.{◌≡◌, ℕ, length, ℤ, pos, ◌*ℤ◌, ap, ◌∙◌, sym}
-use Rattle.set_rules.specs.Sum.{total}
-use Rattle.set_rules.specs.Columns.{entry, column_entry, tabulate}
-use Rattle.set_rules.specs.Round.{rnd, residue}
-use Rattle.set_rules.specs.Zono.{Zono}
-use Rattle.set_rules.specs.Strip.{raw_coefficient}
-use Rattle.set_rules.proofs.Sums.{total-same}
-use Rattle.fixed_mat.proofs.Columns.{tabulate-same}
-use Rattle.zono_set.proofs.Steps.{first_row}
+use Rattle.std.proofs.Common.{◌≡◌, pos, ap, ◌∙◌, sym, subst, arith}
+use Rattle.std.proofs.lemmas.Int.{ints}
+use Rattle.set_rules.specs.Zono.{Zono, zono_of}
+use Rattle.set_rules.specs.Strip.{output_row, output_size, output_residue}
+use Rattle.set_rules.specs.Products.{rounded_row, rounded_size, row_residue}
+use Rattle.fixed_mat.specs.Fits.{FitsRow}
+use Rattle.fixed_mat.proofs.Fits.{wide_row}
+use Rattle.zono_set.proofs.OneRow.{row_is, size_is, residue_is}
+use Rattle.zono_set.proofs.Sizes.{narrow-sizes}
 use Rattle.zono_set.proofs.zono.Zono.fill_coefficients.Given.{Over}
 use Rattle.zono_set.proofs.zono.Zono.fill_coefficients.Goals as goal
-use Rattle.zono_set.proofs.zono.Zono.fill_coefficients.Goals.{After-fill_narrow}
+use Rattle.zono_set.proofs.zono.Zono.fill_coefficients.Goals.{After-has_narrow_row}
 
--- the product of the row with column t
-coefficient_is : (g : Over) (c : After-fill_narrow g) (t : ℕ) → total g.row.N (λ l. entry g.row.N c.args.c_row.now 0 l *ℤ column_entry c.self.inside.cols l t) ≡ raw_coefficient g.row.N c.args.c_row.now c.args.self.now t
-coefficient_is g c t = first_row g.row.N c.args.c_row.now (λ l. column_entry c.self.inside.cols l t) ∙ ap (λ (z : Zono). raw_coefficient g.row.N c.args.c_row.now z t) c.self.view_is
+module _ (g : Over) (c : After-has_narrow_row g) where
+  abbrev inside : Zono
+  inside = zono_of c.self.inside.centre c.self.inside.cols
 
-count_is : (g : Over) (c : After-fill_narrow g) → length c.self.inside.cols ≡ length c.args.self.now.columns
-count_is g c = ap (λ (z : Zono). length z.columns) c.self.view_is
+  size : rounded_size g.row.N c.args.c_row.now 0 c.self.inside.cols ≡ output_size g.row.N c.args.c_row.now c.args.self.now
+  size = size_is g.row.N c.args.c_row.now inside ∙ ap (λ (z : Zono). output_size g.row.N c.args.c_row.now z) c.self.view_is
+
+  row : rounded_row g.row.N c.args.c_row.now 0 c.self.inside.cols ≡ output_row g.row.N c.args.c_row.now c.args.self.now
+  row = row_is g.row.N c.args.c_row.now inside ∙ ap (λ (z : Zono). output_row g.row.N c.args.c_row.now z) c.self.view_is
+
+  left : row_residue g.row.N c.args.c_row.now 0 c.self.inside.cols ≡ output_residue g.row.N c.args.c_row.now c.args.self.now
+  left = residue_is g.row.N c.args.c_row.now inside ∙ ap (λ (z : Zono). output_residue g.row.N c.args.c_row.now z) c.self.view_is
+
+pub fill-requires : goal.fill-requires
+fill-requires g c =
+    let products = subst (λ (z : Zono). FitsRow 9_000_000_000_000_000_000 g.row.N c.args.c_row.now 0 z.columns) (sym c.self.view_is) (c.has_narrow_row.ensures c.if-has_narrow_row.true) in
+    let sizes = narrow-sizes g.row.N c.args.c_row.now 0 c.self.inside.cols c.tell_products.ensures.few products in
+    (omega arith, (omega arith, (omega arith, (products, (omega (arith, ints, sizes), omega (arith, ints, sizes))))))
+
+pub fill-requires-else-has_narrow_row : goal.fill-requires-else-has_narrow_row
+fill-requires-else-has_narrow_row g c =
+    let here = (goal.at.fill-requires-else-has_narrow_row g c).After-has_narrow_row in
+    let is = size g here in
+    let spread = c.requires.spread in
+    let products = wide_row g.row.N c.args.c_row.now 0 c.self.inside.cols c.tell_products.ensures.height (c.tell_products.ensures.rows 0 (omega arith)) in
+    (omega arith, (omega arith, (omega arith, (products, (omega (arith, ints, is, spread), omega (arith, ints, is, spread))))))
 
 pub returns-then-has_narrow_row-clause-coefficients : goal.returns-then-has_narrow_row-clause-coefficients
-returns-then-has_narrow_row-clause-coefficients g c =
-    let here = (goal.at.returns-then-has_narrow_row-clause-coefficients g c).After-fill_narrow in
-    c.fill_narrow.ensures.coefficients
-    ∙ tabulate-same (length c.self.inside.cols) (λ t. rnd (total g.row.N (λ l. entry g.row.N c.args.c_row.now 0 l *ℤ column_entry c.self.inside.cols l t))) (λ t. rnd (raw_coefficient g.row.N c.args.c_row.now c.args.self.now t)) (λ t _. ap rnd (coefficient_is g here t))
-    ∙ ap (λ n. tabulate n (λ t. rnd (raw_coefficient g.row.N c.args.c_row.now c.args.self.now t))) (count_is g here)
+returns-then-has_narrow_row-clause-coefficients g c = c.fill.ensures.coefficients ∙ row g (goal.at.returns-then-has_narrow_row-clause-coefficients g c).After-has_narrow_row
 
 pub returns-then-has_narrow_row-clause-left : goal.returns-then-has_narrow_row-clause-left
-returns-then-has_narrow_row-clause-left g c =
-    let here = (goal.at.returns-then-has_narrow_row-clause-left g c).After-fill_narrow in
-    c.fill_narrow.ensures.left
-    ∙ total-same (length c.self.inside.cols) (λ t. residue (total g.row.N (λ l. entry g.row.N c.args.c_row.now 0 l *ℤ column_entry c.self.inside.cols l t))) (λ t. residue (raw_coefficient g.row.N c.args.c_row.now c.args.self.now t)) (λ t _. ap residue (coefficient_is g here t))
-    ∙ ap (λ n. total n (λ t. residue (raw_coefficient g.row.N c.args.c_row.now c.args.self.now t))) (count_is g here)
+returns-then-has_narrow_row-clause-left g c = c.fill.ensures.left ∙ left g (goal.at.returns-then-has_narrow_row-clause-left g c).After-has_narrow_row
+
+pub returns-else-has_narrow_row-clause-coefficients : goal.returns-else-has_narrow_row-clause-coefficients
+returns-else-has_narrow_row-clause-coefficients g c = c.fill-else-has_narrow_row.ensures.coefficients ∙ row g (goal.at.returns-else-has_narrow_row-clause-coefficients g c).After-has_narrow_row
+
+pub returns-else-has_narrow_row-clause-left : goal.returns-else-has_narrow_row-clause-left
+returns-else-has_narrow_row-clause-left g c = c.fill-else-has_narrow_row.ensures.left ∙ left g (goal.at.returns-else-has_narrow_row-clause-left g c).After-has_narrow_row

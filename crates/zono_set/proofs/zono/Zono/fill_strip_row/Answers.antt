@@ -1,6 +1,6 @@
-use Rattle.std.proofs.Common.{◌≡◌, ℕ, ◌+◌, ◌^◌, ◌≤◌, [], ◌∷◌, ◌++◌, length, ℤ, pos, ◌+ℤ◌, ◌-ℤ◌, ◌*ℤ◌, unsigned_abs, to_z, of_z, sum_by, ap, ◌∙◌, sym, arith}
+use Rattle.std.proofs.Common.{◌≡◌, ℕ, ◌+◌, ◌^◌, ◌≤◌, [], ◌∷◌, ◌++◌, length, ℤ, pos, ◌+ℤ◌, ◌-ℤ◌, ◌*ℤ◌, unsigned_abs, SFits, to_z, of_z, to_z-of_z, sum_by, ap, ◌∙◌, sym, arith}
 use Rattle.std.proofs.lemmas.Int.{ints}
-use mir.Syntax.{w128}
+use mir.Syntax.{w64, w128}
 use Rattle.set_rules.specs.Sum.{total, magnitude}
 use Rattle.set_rules.specs.Columns.{entry, column_entry, tabulate}
 use Rattle.set_rules.specs.Round.{rnd, residue, ceil_s}
@@ -11,36 +11,41 @@ use Rattle.set_rules.proofs.ImageSets.{length-tabulate}
 use Rattle.set_rules.proofs.StripHolds.{strip-keeps}
 use Rattle.fixed_mat.proofs.Bits.{back, sum_back, next_sum}
 use Rattle.fixed_mat.proofs.Columns.{pushes}
-use Rattle.fixed_mat.proofs.Bits64.{total-prefix}
+use Rattle.fixed_mat.proofs.Fits.{total-prefix}
 use Rattle.zono_set.proofs.Bound.{sum_by-tabulate}
 use Rattle.zono_set.proofs.Steps.{first_row, left_back, ok_unless, difference_back}
 use Rattle.zono_set.proofs.zono.Zono.fill_strip_row.Given.{Over}
 use Rattle.zono_set.proofs.zono.Zono.fill_strip_row.Goals as goal
-use Rattle.zono_set.proofs.zono.Zono.fill_strip_row.Goals.{After-narrow_ceil}
+use Rattle.zono_set.proofs.zono.Zono.fill_strip_row.Goals.{After-from}
 
-middle_residue : (g : Over) (c : After-narrow_ceil g) → c.output_middle-middle.result.residue ≡ residue (raw_output g.row.N c.args.c_row.now c.args.du c.args.self.now)
+middle_residue : (g : Over) (c : After-from g) → c.output_middle-middle.result.residue ≡ residue (raw_output g.row.N c.args.c_row.now c.args.du c.args.self.now)
 middle_residue g c = c.output_middle-middle.ensures.residue ∙ ap (λ d. residue (raw_output g.row.N c.args.c_row.now d c.args.self.now)) (back c.args.du (let h = c.requires.input in omega arith))
 
 -- what makes up for the rounding
-slack_is : (g : Over) (c : After-narrow_ceil g) → (c.narrow_ceil.result ≡ output_slack g.row.N c.args.c_row.now c.args.du c.args.self.now) × (unsigned_abs c.narrow_ceil.result ≤ 10 ^ 12)
+slack_is : (g : Over) (c : After-from g) → (c.narrow_ceil-slack.result ≡ output_slack g.row.N c.args.c_row.now c.args.du c.args.self.now) × (unsigned_abs c.narrow_ceil-slack.result ≤ 10 ^ 12)
 slack_is g c =
     let middle = left_back c.output_middle-middle.result.residue c.output_middle-middle.ensures.low c.output_middle-middle.ensures.half ∙ middle_residue g c in (
-      c.narrow_ceil.ensures.value ∙ (λ i. ceil_s (middle i +ℤ c.fill_coefficients-left.ensures.left i)),
-      c.narrow_ceil.ensures.within,
+      c.narrow_ceil-slack.ensures.value ∙ (λ i. ceil_s (middle i +ℤ c.fill_coefficients-left.ensures.left i)),
+      c.narrow_ceil-slack.ensures.within,
     )
 
-last_is : (g : Over) (c : After-narrow_ceil g) → to_z w128 (of_z w128 (to_z w128 (of_z w128 c.args.f) +ℤ to_z w128 (of_z w128 c.narrow_ceil.result))) ≡ c.args.f +ℤ output_slack g.row.N c.args.c_row.now c.args.du c.args.self.now
+wide_is : (g : Over) (c : After-from g) → c.from.result ≡ c.narrow_ceil-slack.result
+wide_is g c = let fits : SFits w64 c.narrow_ceil-slack.result = record { sfits = c.narrow_ceil-slack.type_inv } in c.from.ensures ∙ to_z-of_z fits
+
+last_is : (g : Over) (c : After-from g) → to_z w128 (of_z w128 (to_z w128 (of_z w128 c.args.f) +ℤ to_z w128 (of_z w128 c.from.result))) ≡ c.args.f +ℤ output_slack g.row.N c.args.c_row.now c.args.du c.args.self.now
 last_is g c =
     let low = c.requires.noise_low in
     let high = c.requires.noise_high in
     let s = (slack_is g c).1 in
-    sum_back c.args.f c.narrow_ceil.result (omega (arith, ints)) (omega arith) ∙ ap (λ z. c.args.f +ℤ z) (slack_is g c).0
+    let size = ap unsigned_abs (wide_is g c) in
+    sum_back c.args.f c.from.result (omega (arith, ints)) (omega (arith, s, size)) ∙ ap (λ z. c.args.f +ℤ z) (wide_is g c ∙ (slack_is g c).0)
 
 pub overflow_add-f : goal.overflow_add-f
 overflow_add-f g c =
     let low = c.requires.noise_low in
     let high = c.requires.noise_high in
     let s = (slack_is g c).1 in
+    let same = wide_is g c in
     omega (arith, ints)
 
 pub push-requires : goal.push-requires
@@ -51,7 +56,7 @@ push-requires g c =
 
 pub unwrap-requires : goal.unwrap-requires
 unwrap-requires g c =
-    let here = (goal.at.unwrap-requires g c).After-narrow_ceil in
+    let here = (goal.at.unwrap-requires g c).After-from in
     let f : ℕ → ℤ = λ t. rnd (raw_coefficient g.row.N c.args.c_row.now c.args.self.now t) in
     let held = ap (sum_by unsigned_abs) c.fill_coefficients-left.ensures.coefficients in
     let sum = sum_by-tabulate (length c.args.self.now.columns) f in
@@ -66,7 +71,7 @@ unwrap-requires g c =
 pub returns-clause-coefficients : goal.returns-clause-coefficients
 unfolding strip_row
 returns-clause-coefficients g c =
-    let here = (goal.at.returns-clause-coefficients g c).After-narrow_ceil in
+    let here = (goal.at.returns-clause-coefficients g c).After-from in
     let items = rw c.unwrap.ensures at c.push.ensures.ok in
     items ∙ (λ i. c.fill_coefficients-left.ensures.coefficients i ++ last_is g here i ∷ [])
 

@@ -1,14 +1,15 @@
-use Rattle.std.proofs.Common.{◌≡◌, ℕ, ◌+◌, ◌<◌, ◌≤◌, ◌++◌, [], length, get_or, ℤ, pos, ◌+ℤ◌, ◌*ℤ◌, true, refl, ap, ◌∙◌, mul-one, sym, subst, arith}
+use Rattle.std.proofs.Common.{◌≡◌, ℕ, ◌+◌, ◌<◌, ◌≤◌, ◌++◌, [], length, get_or, ℤ, pos, ◌+ℤ◌, ◌*ℤ◌, ◌≤ℤ◌, true, refl, ap, ◌∙◌, mul-one, sym, subst, arith}
 use Rattle.std.proofs.lemmas.Int.{ints}
-use Rattle.set_rules.specs.Columns.{at, row_magnitude}
-use Rattle.set_rules.specs.Zono.{Zono, InRange}
+use Rattle.set_rules.specs.Sum.{total, magnitude}
+use Rattle.set_rules.specs.Columns.{at, entry, row_magnitude}
+use Rattle.set_rules.specs.Zono.{Zono, zono_of, range, InRange}
 use Rattle.set_rules.specs.Image.{image as image_of, raw_centre, raw_entry, Encloses}
 use Rattle.set_rules.proofs.ImageSets.{length-tabulate, image-parts, image-encloses, centre-in_range}
 use Rattle.fixed_mat.proofs.Columns.{counted}
 use Rattle.zono_set.proofs.Bound.{residues-within}
-use Rattle.zono_set.specs.Narrow.{HasNarrowRow}
+use Rattle.fixed_mat.specs.Fits.{FitsRow}
 use Rattle.zono_set.proofs.Kept.{added-are, added-within}
-use Rattle.zono_set.proofs.Moved.{moved-within, centre-left, slacks-long, slacks-within, slacks-are, slacks-columns, radii-added}
+use Rattle.zono_set.proofs.Moved.{radius-image, slack-low, moved-within, centre-left, slacks-long, slacks-within, slacks-are, slacks-columns, radii-added}
 use Rattle.zono_set.proofs.zono.Zono.image.Given.{Over}
 use Rattle.zono_set.proofs.zono.Zono.image.Goals as goal
 use Rattle.zono_set.proofs.zono.Zono.image.Goals.{After-push_slack, After-move_centre-arg-1}
@@ -20,8 +21,8 @@ pub move_centre-of_centre-requires : goal.move_centre-of_centre-requires
 move_centre-of_centre-requires g c =
     (omega arith, (omega arith, (omega arith, (c.self.invariant.set.high, λ i h. centre-in_range g.row.N c.args.w c.args.a.now c.args.shift.now c.args.e.now (record { centre = c.self.inside.centre; columns = c.self.inside.cols }) (fits g c) i h))))
 
-narrow_rows : (g : Over) (c : After-move_centre-arg-1 g) → c.has_narrow_rows-narrow.result ≡ true → (i : ℕ) → i < g.row.N → HasNarrowRow g.row.N c.args.a.now i c.self.inside.cols
-narrow_rows g c = subst (λ (z : Zono). c.has_narrow_rows-narrow.result ≡ true → (i : ℕ) → i < g.row.N → HasNarrowRow g.row.N c.args.a.now i z.columns) (sym c.self.view_is) c.has_narrow_rows-narrow.ensures
+narrow_rows : (g : Over) (c : After-move_centre-arg-1 g) → c.has_narrow_rows-narrow.result ≡ true → (i : ℕ) → i < g.row.N → FitsRow 9_000_000_000_000_000_000 g.row.N c.args.a.now i c.self.inside.cols
+narrow_rows g c = subst (λ (z : Zono). c.has_narrow_rows-narrow.result ≡ true → (i : ℕ) → i < g.row.N → FitsRow 9_000_000_000_000_000_000 g.row.N c.args.a.now i z.columns) (sym c.self.view_is) c.has_narrow_rows-narrow.ensures
 
 pub move_columns-moved-requires : goal.move_columns-moved-requires
 move_columns-moved-requires g c =
@@ -66,24 +67,29 @@ push_slack-requires g c =
 
 pub radii_after-radii-requires : goal.radii_after-radii-requires
 radii_after-radii-requires g c =
-    let here = (goal.at.radii_after-radii-requires g c).After-move_centre-arg-1 in (
-      omega arith,
-      (
-        c.requires.dists,
-        (
-          c.self.invariant.set.high,
-          (
-            slacks-long g.row.N c.args.a.now c.args.shift.now (record { centre = c.self.inside.centre; columns = c.self.inside.cols }) c.deref.result.now c.deref-3.result.now (λ i. get_or c.move_columns-moved.result.left i 0) (c.deref.ensures.0 ∙ c.move_centre-of_centre.ensures.left) c.move_columns-moved.ensures.left (c.deref-3.ensures.0 ∙ c.slack_of-slack.ensures),
-            (
-              λ i h. let is = c.move_columns-moved.ensures.sizes i h in
-                  let most = moved-within g.row.N c.args.w c.args.a.now c.args.shift.now c.args.e.now (record { centre = c.self.inside.centre; columns = c.self.inside.cols }) i h (fits g here) in
-                  omega (arith, ints, is, most),
-              slacks-within g.row.N c.args.a.now c.args.shift.now (record { centre = c.self.inside.centre; columns = c.self.inside.cols }) c.deref.result.now c.deref-3.result.now (λ i. get_or c.move_columns-moved.result.left i 0) (c.deref.ensures.0 ∙ c.move_centre-of_centre.ensures.left) c.move_columns-moved.ensures.left (c.deref-3.ensures.0 ∙ c.slack_of-slack.ensures) c.args.w c.args.e.now (fits g here),
-            ),
-          ),
-        ),
-      ),
-    )
+    let here = (goal.at.radii_after-radii-requires g c).After-move_centre-arg-1 in
+    let n = g.row.N in
+    let a = c.args.a.now in
+    let shift = c.args.shift.now in
+    let e = c.args.e.now in
+    let inside : Zono = zono_of c.self.inside.centre c.self.inside.cols in
+    let left : ℕ → ℕ = λ i. get_or c.move_columns-moved.result.left i 0 in
+    let of_centre = c.deref.ensures.0 ∙ c.move_centre-of_centre.ensures.left in
+    let of_slack = c.deref-3.ensures.0 ∙ c.slack_of-slack.ensures in
+    let long = slacks-long n a shift inside c.deref.result.now c.deref-3.result.now left of_centre c.move_columns-moved.ensures.left of_slack in
+    let within = λ (i : ℕ) (h : i < n).
+    let sum = c.move_columns-moved.ensures.sizes i h in
+    let slack_at = slacks-are n a shift inside c.deref.result.now c.deref-3.result.now left of_centre c.move_columns-moved.ensures.left of_slack i h in
+    let radius = radius-image n c.args.w a shift e inside i h in
+    let most = fits g here i h in
+    let least : (pos (get_or c.move_columns-moved.result.sizes i 0) +ℤ total c.args.w (λ t. magnitude (entry 8 e i t)) +ℤ at c.deref-3.result.now i) ≤ℤ pos range = omega (arith, ints, sum, slack_at, radius, most) in
+    least in
+    let low = λ (i : ℕ) (h : i < n).
+    let slack_at = slacks-are n a shift inside c.deref.result.now c.deref-3.result.now left of_centre c.move_columns-moved.ensures.left of_slack i h in
+    let natural = slack-low n c.args.w a shift e inside i h in
+    let least : pos 0 ≤ℤ at c.deref-3.result.now i = omega (arith, ints, slack_at, natural) in
+    least in
+    (omega arith, (c.requires.dists, (c.self.invariant.set.high, (long, (within, low)))))
 
 made-inside : (g : Over) (c : After-push_slack g) → let new : Zono = record { centre = c.move_centre-of_centre.new.centre; columns = c.push_slack.new.cols } in new ≡ image_of g.row.N c.args.w c.args.a.now c.args.shift.now c.args.e.now (record { centre = c.self.inside.centre; columns = c.self.inside.cols })
 made-inside g c =

@@ -1,37 +1,42 @@
-use Rattle.std.proofs.Common.{◌≡◌, ℕ, ◌<◌, ◌≤◌, [], ℤ, ◌+ℤ◌, unsigned_abs, to_z, of_z, ap, ◌∙◌, sym, subst, arith, below_more}
+use Rattle.std.proofs.Common.{◌≡◌, ℕ, ◌<◌, ◌≤◌, [], ℤ, ◌+ℤ◌, unsigned_abs, SFits, to_z, of_z, to_z-of_z, ap, ◌∙◌, sym, subst, arith, below_more}
 use Rattle.std.proofs.lemmas.Int.{ints}
-use mir.Syntax.{w128}
+use mir.Syntax.{w64, w128}
 use Rattle.set_rules.specs.Sum.{magnitude}
 use Rattle.set_rules.specs.Symbols.{diagonal}
 use Rattle.set_rules.specs.Columns.{at, row_magnitude, tabulate}
 use Rattle.set_rules.specs.Zono.{Zono, reach, InRange}
 use Rattle.set_rules.specs.Box.{box}
 use Rattle.set_rules.proofs.RowsHold.{box-holds}
-use Rattle.fixed_mat.proofs.Bits.{back, entry-one, sum_back}
+use Rattle.fixed_mat.proofs.Bits.{entry-one}
 use Rattle.fixed_mat.proofs.Columns.{pushes}
 use Rattle.zono_set.specs.Holds.{HoldsBox}
 use Rattle.zono_set.proofs.Reaches.{row_magnitude-diagonal, reach-box}
-use Rattle.zono_set.proofs.Steps.{abs_of, abs_small}
+use Rattle.zono_set.proofs.Steps.{back64, abs64, sum64}
 use Rattle.zono_set.proofs.zono.Zono.of_box.Given.{Over}
 use Rattle.zono_set.proofs.zono.Zono.of_box.Goals as goal
 use Rattle.zono_set.proofs.zono.Zono.of_box.Goals.{After-at-in-loop-i, After-copy}
 
-mag_is : (g : Over) (c : After-at-in-loop-i g) → to_z w128 (of_z w128 (to_z w128 (of_z w128 c.abs.result) +ℤ to_z w128 (of_z w128 c.at-in-loop-i.result))) ≡ reach (box g.row.N c.args.c.now c.args.r.now) c.loop-i.i
+mag_is : (g : Over) (c : After-at-in-loop-i g) → to_z w64 (of_z w64 (to_z w64 (of_z w64 c.abs.result) +ℤ to_z w64 (of_z w64 c.at-in-loop-i.result))) ≡ reach (box g.row.N c.args.c.now c.args.r.now) c.loop-i.i
 mag_is g c =
     let centre = c.at.ensures.value ∙ entry-one c.args.c.now c.loop-i.i in
     let radius = c.at-in-loop-i.ensures.value ∙ entry-one c.args.r.now c.loop-i.i in
     let natural = c.requires.radii c.loop-i.i c.loop-i-test.true in
-    let small : unsigned_abs c.abs.result ≤ 20_000_000_000_000_000_000_000 = (abs_small c.at.result c.abs.result (let h = c.at.ensures.within in omega arith) c.abs.ensures.value).0 in
-    let size = abs_of c.at.result (at c.args.c.now c.loop-i.i) c.abs.result (let h = c.at.ensures.within in omega arith) c.abs.ensures.value centre in
+    let whole : SFits w64 c.at.result = record { sfits = c.at.type_inv } in
+    let size = abs64 c.at.result (at c.args.c.now c.loop-i.i) c.abs.result whole c.abs.ensures.value centre in
     let same : at c.args.r.now c.loop-i.i ≡ magnitude (at c.args.r.now c.loop-i.i) = omega (arith, ints) in
-    sum_back c.abs.result c.at-in-loop-i.result (omega arith) (let h = c.at-in-loop-i.ensures.within in omega arith)
+    let x = c.at.ensures.within in
+    let is = ap unsigned_abs centre in
+    let y = c.at-in-loop-i.ensures.within in
+    sum64 c.abs.result c.at-in-loop-i.result (omega (arith, ints, size, x, is)) (omega (arith, y)) (omega (arith, ints, size, x, is, y))
     ∙ (λ i. size i +ℤ (radius ∙ same) i) ∙ sym (reach-box g.row.N c.args.c.now c.args.r.now c.loop-i.i c.loop-i-test.true)
 
 pub returns-then-mag-gt1000000000000000000-clause-refused : goal.returns-then-mag-gt1000000000000000000-clause-refused
 returns-then-mag-gt1000000000000000000-clause-refused g c =
     let is = mag_is g (goal.at.returns-then-mag-gt1000000000000000000-clause-refused g c).After-at-in-loop-i in
     let past = c.if-mag-gt1000000000000000000.true in
-    (c.loop-i-test.true, record { is = is; past = omega (arith, ints); before = c.loop-i.invariant })
+    let wide : SFits w128 c.from.result = record { sfits = c.from.type_inv } in
+    let same = to_z-of_z wide ∙ c.from.ensures ∙ is in
+    (c.loop-i-test.true, record { is = same; past = omega (arith, ints, same, is, past); before = c.loop-i.invariant })
 
 pub loop-i-preserved : goal.loop-i-preserved
 loop-i-preserved g c =
@@ -41,7 +46,7 @@ loop-i-preserved g c =
 
 pub loop-i-2-preserved : goal.loop-i-2-preserved
 loop-i-2-preserved g c =
-    let radius = back c.at-in-loop-i-2.result (let h = c.at-in-loop-i-2.ensures.within in omega arith) ∙ c.at-in-loop-i-2.ensures.value ∙ entry-one c.args.r.now c.loop-i-2.i in
+    let radius = back64 c.at-in-loop-i-2.result (let h = c.at-in-loop-i-2.ensures.within in omega arith) ∙ c.at-in-loop-i-2.ensures.value ∙ entry-one c.args.r.now c.loop-i-2.i in
     pushes [] _ _ _ _ _ c.loop-i-2.invariant c.push_diagonal.ensures (ap (λ (v : ℤ). tabulate g.row.N (λ s. diagonal (λ _. v) s c.loop-i-2.i)) radius)
 
 made : (g : Over) (c : After-copy g) → let new : Zono = record { centre = c.copy.result; columns = c.loop-i-2.cols } in new ≡ box g.row.N c.args.c.now c.args.r.now

@@ -1,41 +1,37 @@
-use Rattle.std.proofs.Common.{◌≡◌, ℕ, ◌^◌, ◌≤◌, length, ℤ, ◌+ℤ◌, ◌-ℤ◌, ◌*ℤ◌, unsigned_abs, to_z, of_z, ap, ◌∙◌, sym, subst, arith}
+use Rattle.std.proofs.Common.{◌≡◌, ℕ, ◌^◌, ◌≤◌, length, ℤ, ◌+ℤ◌, ◌-ℤ◌, ◌*ℤ◌, unsigned_abs, SFits, to_z, of_z, to_z-of_z, ap, ◌∙◌, sym, subst, arith}
 use Rattle.std.proofs.lemmas.Int.{ints}
-use mir.Syntax.{w128}
+use mir.Syntax.{w64, w128}
 use Rattle.set_rules.specs.Sum.{total, magnitude}
 use Rattle.set_rules.specs.Columns.{entry, column_entry}
 use Rattle.set_rules.specs.Round.{rnd, residue, ceil_s}
-use Rattle.set_rules.specs.Zono.{Zono}
-use Rattle.set_rules.specs.Strip.{raw_output, raw_coefficient, half_width, out_interval as out_interval_of, output_slack}
-use Rattle.set_rules.proofs.Sums.{total-same}
+use Rattle.set_rules.specs.Zono.{Zono, zono_of}
+use Rattle.set_rules.specs.Strip.{raw_output, output_size, output_residue, half_width, out_interval as out_interval_of, output_slack}
 use Rattle.set_rules.proofs.ReadingsHold.{readings-meet}
 use Rattle.fixed_mat.proofs.Bits.{back, sum_back}
 use Rattle.zono_set.specs.Holds.{HoldsReadings}
-use Rattle.zono_set.proofs.Steps.{first_row, fold, natural}
+use Rattle.zono_set.proofs.OneRow.{size_is as row_size, residue_is as row_left}
+use Rattle.zono_set.proofs.Steps.{fold, natural}
 use Rattle.zono_set.proofs.zono.Zono.out_interval.Given.{Over}
 use Rattle.zono_set.proofs.zono.Zono.out_interval.Goals as goal
-use Rattle.zono_set.proofs.zono.Zono.out_interval.Goals.{After-narrow_ceil}
+use Rattle.zono_set.proofs.zono.Zono.out_interval.Goals.{After-from}
 
--- the product of the row with column t
-coefficient_is : (g : Over) (c : After-narrow_ceil g) (t : ℕ) → total g.row.N (λ l. entry g.row.N c.args.c_row.now 0 l *ℤ column_entry c.self.inside.cols l t) ≡ raw_coefficient g.row.N c.args.c_row.now c.args.self.now t
-coefficient_is g c t = first_row g.row.N c.args.c_row.now (λ l. column_entry c.self.inside.cols l t) ∙ ap (λ (z : Zono). raw_coefficient g.row.N c.args.c_row.now z t) c.self.view_is
+module _ (g : Over) (c : After-from g) where
+  abbrev inside : Zono
+  inside = zono_of c.self.inside.centre c.self.inside.cols
 
-count_is : (g : Over) (c : After-narrow_ceil g) → length c.self.inside.cols ≡ length c.args.self.now.columns
-count_is g c = ap (λ (z : Zono). length z.columns) c.self.view_is
+  size_is : c.row_sums-sums.result.size ≡ output_size g.row.N c.args.c_row.now c.args.self.now
+  size_is = c.row_sums-sums.ensures.size ∙ row_size g.row.N c.args.c_row.now inside ∙ ap (λ (z : Zono). output_size g.row.N c.args.c_row.now z) c.self.view_is
 
-size_is : (g : Over) (c : After-narrow_ceil g) → c.row_sums-sums.result.size ≡ total (length c.args.self.now.columns) (λ t. magnitude (rnd (raw_coefficient g.row.N c.args.c_row.now c.args.self.now t)))
-size_is g c =
-    c.row_sums-sums.ensures.size ∙ total-same (length c.self.inside.cols) (λ t. magnitude (rnd (total g.row.N (λ l. entry g.row.N c.args.c_row.now 0 l *ℤ column_entry c.self.inside.cols l t)))) (λ t. magnitude (rnd (raw_coefficient g.row.N c.args.c_row.now c.args.self.now t))) (λ t _. ap (λ z. magnitude (rnd z)) (coefficient_is g c t))
-    ∙ ap (λ n. total n (λ t. magnitude (rnd (raw_coefficient g.row.N c.args.c_row.now c.args.self.now t)))) (count_is g c)
+  left_is : c.row_sums-sums.result.left ≡ output_residue g.row.N c.args.c_row.now c.args.self.now
+  left_is = c.row_sums-sums.ensures.left ∙ row_left g.row.N c.args.c_row.now inside ∙ ap (λ (z : Zono). output_residue g.row.N c.args.c_row.now z) c.self.view_is
 
-left_is : (g : Over) (c : After-narrow_ceil g) → c.row_sums-sums.result.left ≡ total (length c.args.self.now.columns) (λ t. residue (raw_coefficient g.row.N c.args.c_row.now c.args.self.now t))
-left_is g c =
-    c.row_sums-sums.ensures.left ∙ total-same (length c.self.inside.cols) (λ t. residue (total g.row.N (λ l. entry g.row.N c.args.c_row.now 0 l *ℤ column_entry c.self.inside.cols l t))) (λ t. residue (raw_coefficient g.row.N c.args.c_row.now c.args.self.now t)) (λ t _. ap residue (coefficient_is g c t))
-    ∙ ap (λ n. total n (λ t. residue (raw_coefficient g.row.N c.args.c_row.now c.args.self.now t))) (count_is g c)
+  wide_is : c.from.result ≡ c.narrow_ceil-slack.result
+  wide_is = let fits : SFits w64 c.narrow_ceil-slack.result = record { sfits = c.narrow_ceil-slack.type_inv } in c.from.ensures ∙ to_z-of_z fits
 
-middle_residue : (g : Over) (c : After-narrow_ceil g) → c.output_middle-middle.result.residue ≡ residue (raw_output g.row.N c.args.c_row.now c.args.du c.args.self.now)
+middle_residue : (g : Over) (c : After-from g) → c.output_middle-middle.result.residue ≡ residue (raw_output g.row.N c.args.c_row.now c.args.du c.args.self.now)
 middle_residue g c = c.output_middle-middle.ensures.residue ∙ ap (λ d. residue (raw_output g.row.N c.args.c_row.now d c.args.self.now)) (back c.args.du (let h = c.requires.input in omega arith))
 
-left_sum : (g : Over) (c : After-narrow_ceil g) → to_z w128 (of_z w128 (to_z w128 (of_z w128 c.output_middle-middle.result.residue) +ℤ to_z w128 (of_z w128 c.row_sums-sums.result.left))) ≡ c.output_middle-middle.result.residue +ℤ c.row_sums-sums.result.left
+left_sum : (g : Over) (c : After-from g) → to_z w128 (of_z w128 (to_z w128 (of_z w128 c.output_middle-middle.result.residue) +ℤ to_z w128 (of_z w128 c.row_sums-sums.result.left))) ≡ c.output_middle-middle.result.residue +ℤ c.row_sums-sums.result.left
 left_sum g c =
     let low = c.row_sums-sums.ensures.left_low in
     let high = c.row_sums-sums.ensures.left_high in
@@ -43,26 +39,28 @@ left_sum g c =
     let half = c.output_middle-middle.ensures.half in
     sum_back c.output_middle-middle.result.residue c.row_sums-sums.result.left (omega (arith, ints)) (omega (arith, ints))
 
-slack_is : (g : Over) (c : After-narrow_ceil g) → (c.narrow_ceil.result ≡ output_slack g.row.N c.args.c_row.now c.args.du c.args.self.now) × (unsigned_abs c.narrow_ceil.result ≤ 10 ^ 12)
+slack_is : (g : Over) (c : After-from g) → (c.from.result ≡ output_slack g.row.N c.args.c_row.now c.args.du c.args.self.now) × (unsigned_abs c.from.result ≤ 10 ^ 12)
 slack_is g c =
     let low = c.row_sums-sums.ensures.left_low in
     let low' = c.output_middle-middle.ensures.low in
     let sum = natural (c.output_middle-middle.result.residue +ℤ c.row_sums-sums.result.left) _ (omega (arith, ints, low, low')) (left_sum g c) in
-    (c.narrow_ceil.ensures.value ∙ ap ceil_s sum ∙ (λ i. ceil_s (middle_residue g c i +ℤ left_is g c i)), c.narrow_ceil.ensures.within)
+    let size = ap unsigned_abs (wide_is g c) in
+    let small = c.narrow_ceil-slack.ensures.within in
+    (wide_is g c ∙ c.narrow_ceil-slack.ensures.value ∙ ap ceil_s sum ∙ (λ i. ceil_s (middle_residue g c i +ℤ left_is g c i)), omega (arith, size, small))
 
-size_small : (g : Over) (c : After-narrow_ceil g) → unsigned_abs c.row_sums-sums.result.size ≤ 8_100_000_000_000_000_000_000
+size_small : (g : Over) (c : After-from g) → unsigned_abs c.row_sums-sums.result.size ≤ 8_100_000_000_000_000_000_000
 size_small g c = let low = c.row_sums-sums.ensures.size_low in let is = size_is g c in let spread = c.output_middle-middle.ensures.spread in omega (arith, ints)
 
-half_is : (g : Over) (c : After-narrow_ceil g) → (to_z w128 (of_z w128 (to_z w128 (of_z w128 (to_z w128 (of_z w128 c.row_sums-sums.result.size) +ℤ to_z w128 (of_z w128 c.args.f))) +ℤ to_z w128 (of_z w128 c.narrow_ceil.result))) ≡ c.row_sums-sums.result.size +ℤ c.args.f +ℤ c.narrow_ceil.result)
-    × (unsigned_abs (c.row_sums-sums.result.size +ℤ c.args.f +ℤ c.narrow_ceil.result) ≤ 9_000_000_000_000_000_000_000)
+half_is : (g : Over) (c : After-from g) → (to_z w128 (of_z w128 (to_z w128 (of_z w128 (to_z w128 (of_z w128 c.row_sums-sums.result.size) +ℤ to_z w128 (of_z w128 c.args.f))) +ℤ to_z w128 (of_z w128 c.from.result))) ≡ c.row_sums-sums.result.size +ℤ c.args.f +ℤ c.from.result)
+    × (unsigned_abs (c.row_sums-sums.result.size +ℤ c.args.f +ℤ c.from.result) ≤ 9_000_000_000_000_000_000_000)
 half_is g c =
     let low = c.requires.noise_low in
     let high = c.requires.noise_high in
     let s = (slack_is g c).1 in
     let z = size_small g c in
     let front = sum_back c.row_sums-sums.result.size c.args.f (omega arith) (omega (arith, ints)) in
-    let slack = back c.narrow_ceil.result (omega arith) in (
-      fold (to_z w128 (of_z w128 (to_z w128 (of_z w128 c.row_sums-sums.result.size) +ℤ to_z w128 (of_z w128 c.args.f))) +ℤ to_z w128 (of_z w128 c.narrow_ceil.result)) (c.row_sums-sums.result.size +ℤ c.args.f +ℤ c.narrow_ceil.result) (λ i. front i +ℤ slack i) (omega (arith, ints)),
+    let slack = back c.from.result (omega arith) in (
+      fold (to_z w128 (of_z w128 (to_z w128 (of_z w128 c.row_sums-sums.result.size) +ℤ to_z w128 (of_z w128 c.args.f))) +ℤ to_z w128 (of_z w128 c.from.result)) (c.row_sums-sums.result.size +ℤ c.args.f +ℤ c.from.result) (λ i. front i +ℤ slack i) (omega (arith, ints)),
       omega (arith, ints),
     )
 
@@ -77,7 +75,7 @@ overflow_add-half-2 g c =
 
 pub overflow_sub-result : goal.overflow_sub-result
 overflow_sub-result g c =
-    let half = half_is g (goal.at.overflow_sub-result g c).After-narrow_ceil in
+    let half = half_is g (goal.at.overflow_sub-result g c).After-from in
     let is = half.0 in
     let small = half.1 in
     let middle = c.output_middle-middle.ensures.within in
@@ -85,7 +83,7 @@ overflow_sub-result g c =
 
 pub overflow_add-result : goal.overflow_add-result
 overflow_add-result g c =
-    let half = half_is g (goal.at.overflow_add-result g c).After-narrow_ceil in
+    let half = half_is g (goal.at.overflow_add-result g c).After-from in
     let is = half.0 in
     let small = half.1 in
     let middle = c.output_middle-middle.ensures.within in
@@ -102,27 +100,27 @@ ends_are m h x e small small' = (
 pub returns-clause-value : goal.returns-clause-value
 unfolding out_interval_of
 returns-clause-value g c =
-    let here = (goal.at.returns-clause-value g c).After-narrow_ceil in
+    let here = (goal.at.returns-clause-value g c).After-from in
     let half = half_is g here in
-    let ends = ends_are c.output_middle-middle.result.nearest (c.row_sums-sums.result.size +ℤ c.args.f +ℤ c.narrow_ceil.result) _ half.0 c.output_middle-middle.ensures.within half.1 in
-    let width : c.row_sums-sums.result.size +ℤ c.args.f +ℤ c.narrow_ceil.result ≡ half_width g.row.N c.args.c_row.now c.args.du c.args.f c.args.self.now = λ i. size_is g here i +ℤ c.args.f +ℤ (slack_is g here).0 i in
+    let ends = ends_are c.output_middle-middle.result.nearest (c.row_sums-sums.result.size +ℤ c.args.f +ℤ c.from.result) _ half.0 c.output_middle-middle.ensures.within half.1 in
+    let width : c.row_sums-sums.result.size +ℤ c.args.f +ℤ c.from.result ≡ half_width g.row.N c.args.c_row.now c.args.du c.args.f c.args.self.now = λ i. size_is g here i +ℤ c.args.f +ℤ (slack_is g here).0 i in
     let middle = c.output_middle-middle.ensures.nearest ∙ ap (λ d. rnd (raw_output g.row.N c.args.c_row.now d c.args.self.now)) (back c.args.du (let h = c.requires.input in omega arith)) in
     (λ i. (ends.0 i, ends.1 i)) ∙ (λ i. (middle i -ℤ width i, middle i +ℤ width i))
 
 pub returns-clause-low : goal.returns-clause-low
 returns-clause-low g c =
-    let half = half_is g (goal.at.returns-clause-low g c).After-narrow_ceil in
+    let half = half_is g (goal.at.returns-clause-low g c).After-from in
     let middle = c.output_middle-middle.ensures.within in
     let small = half.1 in
-    let ends = ends_are c.output_middle-middle.result.nearest (c.row_sums-sums.result.size +ℤ c.args.f +ℤ c.narrow_ceil.result) _ half.0 middle small in
+    let ends = ends_are c.output_middle-middle.result.nearest (c.row_sums-sums.result.size +ℤ c.args.f +ℤ c.from.result) _ half.0 middle small in
     subst (λ z. unsigned_abs z ≤ 1_000_000_000_000_000_000_000_000) (sym ends.0) (omega (arith, ints))
 
 pub returns-clause-high : goal.returns-clause-high
 returns-clause-high g c =
-    let half = half_is g (goal.at.returns-clause-high g c).After-narrow_ceil in
+    let half = half_is g (goal.at.returns-clause-high g c).After-from in
     let middle = c.output_middle-middle.ensures.within in
     let small = half.1 in
-    let ends = ends_are c.output_middle-middle.result.nearest (c.row_sums-sums.result.size +ℤ c.args.f +ℤ c.narrow_ceil.result) _ half.0 middle small in
+    let ends = ends_are c.output_middle-middle.result.nearest (c.row_sums-sums.result.size +ℤ c.args.f +ℤ c.from.result) _ half.0 middle small in
     subst (λ z. unsigned_abs z ≤ 1_000_000_000_000_000_000_000_000) (sym ends.1) (omega (arith, ints))
 
 pub returns-clause-holds : goal.returns-clause-holds

@@ -7,15 +7,15 @@ use Rattle.set_rules.specs.Zono.{Zono, reach}
 use Rattle.set_rules.specs.Round.{rnd, residue, ceil_s}
 use Rattle.set_rules.specs.Image.{image, raw_centre}
 use Rattle.set_rules.proofs.ImageSets.{reach-image}
-use Rattle.fixed_mat.proofs.Bits.{back, entry-one, sum_back, sum_four, sum_four_fits}
-use Rattle.zono_set.specs.Narrow.{HasNarrowRow}
+use Rattle.fixed_mat.proofs.Bits.{back, sum_back, sum_four, sum_four_fits}
+use Rattle.fixed_mat.specs.Fits.{FitsRow}
 use Rattle.zono_set.proofs.Steps.{abs_of, abs_small, slack_small}
 use Rattle.zono_set.proofs.zono.Zono.reach_after.Given.{Over}
 use Rattle.zono_set.proofs.zono.Zono.reach_after.Goals as goal
 use Rattle.zono_set.proofs.zono.Zono.reach_after.Goals.{After-abs}
 
 shift_is : (g : Over) (c : After-abs g) → to_z w128 (of_z w128 c.at.result) ≡ at c.args.shift.now c.args.i
-shift_is g c = back c.at.result (let h = c.at.ensures.within in omega arith) ∙ c.at.ensures.value ∙ entry-one c.args.shift.now c.args.i
+shift_is g c = back c.at.result (let h = c.at.ensures.within in omega arith) ∙ c.at.ensures.value
 
 slack_is : (g : Over) (c : After-abs g) → (c.ceil_s-slack.result ≡ ceil_s (c.rounded_centre-centre.result.residue +ℤ c.row_sums-sums.result.left)) × (unsigned_abs c.ceil_s-slack.result ≤ 10 ^ 12)
 slack_is g c =
@@ -52,4 +52,4 @@ returns g c =
 
 pub row_sums-sums-requires : goal.row_sums-sums-requires
 row_sums-sums-requires g c =
-    (omega arith, (omega arith, (c.requires.row, λ narrow. subst (λ (z : Zono). HasNarrowRow g.row.N c.args.a.now c.args.i z.columns) (sym c.self.view_is) (c.has_narrow_row.ensures narrow))))
+    (omega arith, (omega arith, (c.requires.row, λ narrow. subst (λ (z : Zono). FitsRow 9_000_000_000_000_000_000 g.row.N c.args.a.now c.args.i z.columns) (sym c.self.view_is) (c.has_narrow_row.ensures narrow))))

@@ -1,13 +1,13 @@
-use Rattle.std.proofs.Common.{◌≡◌, ◌+◌, ◌^◌, ◌≤◌, ◌<◌, length, get_or, pos, ◌+ℤ◌, ◌*ℤ◌, unsigned_abs, to_z, refl, ap, ◌∙◌, sym, arith}
+use Rattle.std.proofs.Common.{◌≡◌, ◌+◌, ◌^◌, ◌≤◌, ◌<◌, length, get_or, pos, ◌+ℤ◌, ◌*ℤ◌, unsigned_abs, SFits, to_z, refl, ap, ◌∙◌, sym, arith}
 use Rattle.std.proofs.lemmas.Int.{ints}
-use mir.Syntax.{w128}
+use mir.Syntax.{w64, w128}
 use Rattle.set_rules.specs.Sum.{magnitude}
 use Rattle.set_rules.specs.Columns.{entry, at, column_entry}
 use Rattle.set_rules.specs.Zono.{Zono, reach}
 use Rattle.set_rules.proofs.Sums.{total-zero, total-magnitudes-low}
 use Rattle.set_rules.proofs.ImageSets.{length-tabulate, get_or-tabulate}
-use Rattle.fixed_mat.proofs.Bits.{back, entry-one, small_fits, sum_on, next_sum, whole_sum}
-use Rattle.zono_set.proofs.Steps.{abs_of, bound_back, bound_fits}
+use Rattle.fixed_mat.proofs.Bits.{back, small_fits, sum_on, next_sum, whole_sum}
+use Rattle.zono_set.proofs.Steps.{abs_of, abs64, back64, bound_back, bound_fits}
 use Rattle.zono_set.proofs.zono.Zono.reach_bound.Given.{Over}
 use Rattle.zono_set.proofs.zono.Zono.reach_bound.Goals as goal
 use Rattle.zono_set.proofs.zono.Zono.reach_bound.Goals.{After-abs, After-noise_reach}
@@ -29,7 +29,8 @@ reach_small g c =
 size_small : (g : Over) (c : After-abs g) → (unsigned_abs c.abs.result ≤ 10 ^ 12) × (c.abs.result ≡ magnitude (entry g.row.N c.args.a.now c.args.i c.loop-l.l))
 size_small g c =
     let small = c.at.ensures.within in
-    let is = abs_of c.at.result (entry g.row.N c.args.a.now c.args.i c.loop-l.l) c.abs.result (omega arith) c.abs.ensures.value c.at.ensures.value in
+    let whole : SFits w64 c.at.result = record { sfits = c.at.type_inv } in
+    let is = abs64 c.at.result (entry g.row.N c.args.a.now c.args.i c.loop-l.l) c.abs.result whole c.abs.ensures.value c.at.ensures.value in
     let value = ap unsigned_abs c.at.ensures.value in
     (omega (arith, ints), is)
 
@@ -45,12 +46,12 @@ bounds-reaches-l g c = spot g c
 pub times-sum-requires-clause-left : goal.times-sum-requires-clause-left
 times-sum-requires-clause-left g c =
     let size = (size_small g (goal.at.times-sum-requires-clause-left g c).After-abs).0 in
-    rw (back c.abs.result (omega arith)) (omega arith)
+    rw (back64 c.abs.result (omega arith)) (omega arith)
 
 pub times-sum-requires-clause-right : goal.times-sum-requires-clause-right
 times-sum-requires-clause-right g c =
     let size = reach_small g (goal.at.times-sum-requires-clause-right g c).After-abs in
-    rw (back (get_or c.args.reaches.now c.loop-l.l (pos 0)) (omega arith)) size
+    rw (back64 (get_or c.args.reaches.now c.loop-l.l (pos 0)) (omega arith)) size
 
 pub overflow_add-sum : goal.overflow_add-sum
 overflow_add-sum g c =
@@ -66,8 +67,8 @@ loop-l-preserved g c =
     let small = c.times-sum.ensures.within in
     let before = c.loop-l.invariant.within in
     let sum = sum_on c.loop-l.sum-bits c.times-sum.result (omega arith) (omega arith) in
-    let left = back c.abs.result (let h = (size_small g here).0 in omega arith) ∙ (size_small g here).1 in
-    let right = back (get_or c.args.reaches.now c.loop-l.l (pos 0)) (let h = reach_small g here in omega arith) ∙ reach_is g here in
+    let left = back64 c.abs.result (let h = (size_small g here).0 in omega arith) ∙ (size_small g here).1 in
+    let right = back64 (get_or c.args.reaches.now c.loop-l.l (pos 0)) (let h = reach_small g here in omega arith) ∙ reach_is g here in
     record {
       so_far = sum ∙ next_sum (to_z w128 c.loop-l.sum-bits) c.times-sum.result c.loop-l.l (λ j. magnitude (entry g.row.N c.args.a.now c.args.i j) *ℤ reach c.args.self.now j) c.loop-l.invariant.so_far (c.times-sum.ensures.value ∙ (λ i. left i *ℤ right i));
       within = rw sum (omega (arith, ints));
@@ -76,8 +77,8 @@ loop-l-preserved g c =
 shift_small : (g : Over) (c : After-noise_reach g) → (unsigned_abs c.abs-2.result ≤ 10 ^ 33) × (c.abs-2.result ≡ magnitude (at c.args.shift.now c.args.i))
 shift_small g c =
     let small = c.at-2.ensures.within in
-    let is = abs_of c.at-2.result (at c.args.shift.now c.args.i) c.abs-2.result (omega arith) c.abs-2.ensures.value (c.at-2.ensures.value ∙ entry-one c.args.shift.now c.args.i) in
-    let value = ap unsigned_abs (c.at-2.ensures.value ∙ entry-one c.args.shift.now c.args.i) in
+    let is = abs_of c.at-2.result (at c.args.shift.now c.args.i) c.abs-2.result (omega arith) c.abs-2.ensures.value c.at-2.ensures.value in
+    let value = ap unsigned_abs c.at-2.ensures.value in
     (omega (arith, ints), is)
 
 sum_small : (g : Over) (c : After-noise_reach g) → unsigned_abs (to_z w128 c.loop-l.sum-bits) ≤ 10 ^ 33

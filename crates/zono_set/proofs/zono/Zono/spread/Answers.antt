@@ -1,6 +1,6 @@
-use Rattle.std.proofs.Common.{to_z, sym, ◌∙◌, length, arith}
+use Rattle.std.proofs.Common.{◌≡◌, unsigned_abs, SFits, to_z, to_z-of_z, ap, sym, ◌∙◌, length, arith}
 use Rattle.std.proofs.lemmas.Int.{ints}
-use mir.Syntax.{w128}
+use mir.Syntax.{w64, w128}
 use Rattle.set_rules.specs.Columns.{column_entry, row_magnitude}
 use Rattle.set_rules.proofs.Sums.{total-zero, total-magnitudes-low}
 use Rattle.fixed_mat.proofs.Bits.{sum_on, next_sum}
@@ -13,14 +13,17 @@ pub loop-i-preserved : goal.loop-i-preserved
 loop-i-preserved g c =
     let few = c.len.ensures.height_small in
     let test = c.loop-i-test.true in
-    let within = c.radius-sum.ensures.within in
+    let within = c.radius.ensures.within in
     let natural = total-magnitudes-low (length c.args.self.now.columns) (column_entry c.args.self.now.columns c.loop-i.i) in
-    let is = c.radius-sum.ensures.value in
+    let is = c.radius.ensures.value in
     let low = c.loop-i.invariant.low in
     let high = c.loop-i.invariant.high in
-    let sum = sum_on c.loop-i.sum-bits c.radius-sum.result (omega (arith, ints)) (omega (arith, ints)) in
+    let fits : SFits w64 c.radius.result = record { sfits = c.radius.type_inv } in
+    let same : c.from-sum.result ≡ c.radius.result = c.from-sum.ensures ∙ to_z-of_z fits in
+    let size = ap unsigned_abs same in
+    let sum = sum_on c.loop-i.sum-bits c.from-sum.result (omega (arith, ints, within, few, test, low, high)) (omega (arith, size, within)) in
     record {
-      sum = sum ∙ next_sum (to_z w128 c.loop-i.sum-bits) c.radius-sum.result c.loop-i.i (row_magnitude c.args.self.now.columns) c.loop-i.invariant.sum is;
+      sum = sum ∙ next_sum (to_z w128 c.loop-i.sum-bits) c.from-sum.result c.loop-i.i (row_magnitude c.args.self.now.columns) c.loop-i.invariant.sum (same ∙ is);
       low = omega (arith, ints);
       high = omega (arith, ints);
     }

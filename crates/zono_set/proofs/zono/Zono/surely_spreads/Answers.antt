@@ -6,6 +6,7 @@ use Rattle.set_rules.specs.Columns.{at}
 use Rattle.set_rules.specs.Zono.{Zono}
 use Rattle.set_rules.proofs.Sums.{total-zero}
 use Rattle.fixed_mat.proofs.Bits.{back, sum_on, entry-one, next_sum, whole_sum}
+use Rattle.zono_set.proofs.Steps.{back64}
 use Rattle.zono_set.proofs.Unrounded.{raw_size, spreads}
 use Rattle.zono_set.proofs.zono.Zono.surely_spreads.Given.{Over}
 use Rattle.zono_set.proofs.zono.Zono.surely_spreads.Goals as goal
@@ -20,7 +21,7 @@ module _ (g : Over) (c : After-widened_size-sum g) where
 
   term_is : c.widened_size-sum.result ≡ raw_size c.args.gain.now c.args.a.now c.args.self.now c.loop-i.i
   term_is =
-      let gain = back c.at.result (let h = c.at.ensures.within in omega arith) ∙ c.at.ensures.value ∙ entry-one c.args.gain.now c.loop-i.i in
+      let gain = back64 c.at.result (let h = c.at.ensures.within in omega arith) ∙ c.at.ensures.value ∙ entry-one c.args.gain.now c.loop-i.i in
       let symbol = back c.new_coefficient-of_symbol.result (let h = c.new_coefficient-of_symbol.ensures.within in omega arith) ∙ c.new_coefficient-of_symbol.ensures.value
       ∙ ap (λ k. magnitude (at c.args.a.now k)) c.len.ensures.value in
       let size = to_z-of_z size_fits ∙ c.unrounded_sizes-sizes.ensures c.loop-i.i c.loop-i-test.true in

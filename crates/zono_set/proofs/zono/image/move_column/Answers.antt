@@ -1,13 +1,12 @@
-use Rattle.std.proofs.Common.{◌≡◌, ℕ, ◌+◌, ◌-◌, ◌<◌, ◌≤◌, ◌≢◌, List, length, length-set, take, set, get_or, get_or-set_same, get_or-set_other, ℤ, pos, ◌+ℤ◌, ◌*ℤ◌, unsigned_abs, to_z, of_z, ap, ◌∙◌, arith, below_more}
+use Rattle.std.proofs.Common.{◌≡◌, ℕ, ◌+◌, ◌-◌, ◌<◌, ◌≤◌, ◌≢◌, List, length, length-set, take, set, get_or, get_or-set_same, get_or-set_other, ℤ, pos, ◌+ℤ◌, ◌*ℤ◌, unsigned_abs, to_z, of_z, to_z-of_z, SFits, sym, subst, ap, ◌∙◌, arith, below_more}
 use Rattle.std.proofs.lemmas.List.{length-take-le, get_or-take}
 use Rattle.std.proofs.lemmas.List.FromFn.{fill_by_all}
-use mir.Syntax.{w128}
+use mir.Syntax.{w64}
 use Rattle.set_rules.specs.Sum.{total, magnitude}
 use Rattle.set_rules.specs.Columns.{at, entry, column_entry, tabulate}
 use Rattle.set_rules.specs.Round.{rnd, residue}
 use Rattle.set_rules.specs.Zono.{range}
-use Rattle.fixed_mat.proofs.Bits.{back}
-use Rattle.zono_set.proofs.Steps.{left_back, filled-all}
+use Rattle.zono_set.proofs.Steps.{filled-all}
 use Rattle.zono_set.proofs.zono.image.move_column.Given.{Over}
 use Rattle.zono_set.proofs.zono.image.move_column.Goals as goal
 use Rattle.zono_set.proofs.zono.image.move_column.Goals.{After-unsigned_abs}
@@ -17,8 +16,12 @@ module _ (g : Over) (c : After-unsigned_abs g) where
   abbrev exact : ℤ
   exact = total g.row.N (λ l. entry g.row.N c.args.a.now c.loop-i.i l *ℤ column_entry c.args.cols.now l c.args.t)
 
-  nearest : to_z w128 (of_z w128 c.rounded_column-state.result.nearest) ≡ rnd exact
-  nearest = back c.rounded_column-state.result.nearest (let h = c.rounded_column-state.ensures.within in omega arith) ∙ c.rounded_column-state.ensures.nearest
+  nearest : to_z w64 (of_z w64 c.low-nearest.result) ≡ rnd exact
+  nearest =
+      let is = c.rounded-state.ensures.nearest ∙ ap rnd c.column_product-sum.ensures.value in
+      let fits = c.requires.fits c.loop-i.i c.loop-i-test.true in
+      let whole : SFits w64 c.low-nearest.result = record { sfits = c.low-nearest.type_inv } in
+      to_z-of_z whole ∙ c.low-nearest.ensures (subst (λ z. unsigned_abs z ≤ range) (sym is) fits) ∙ is
 
   size_is : pos c.unsigned_abs.result ≡ magnitude (rnd exact)
   size_is = ap pos (c.unsigned_abs.ensures.value ∙ ap unsigned_abs nearest)
@@ -29,11 +32,8 @@ module _ (g : Over) (c : After-unsigned_abs g) where
       let fits = c.requires.fits c.loop-i.i c.loop-i-test.true in
       omega (arith, is, fits)
 
-  left_is : pos (unsigned_abs (to_z w128 (of_z w128 c.rounded_column-state.result.residue))) ≡ residue exact
-  left_is = left_back c.rounded_column-state.result.residue c.rounded_column-state.ensures.low c.rounded_column-state.ensures.half ∙ c.rounded_column-state.ensures.residue
-
-pub overflow_cast-sizes : goal.overflow_cast-sizes
-overflow_cast-sizes g c = let h = size_small g c in record { fits = omega (arith, h) }
+  left_is : pos c.rounded-state.result.residue ≡ residue exact
+  left_is = c.rounded-state.ensures.residue ∙ ap residue c.column_product-sum.ensures.value
 
 pub overflow_add-sizes : goal.overflow_add-sizes
 overflow_add-sizes g c =
@@ -50,9 +50,9 @@ loop-i-preserved g c =
     let lt : i < length c.loop-i.moved = let long = c.loop-i.invariant.long in omega (arith, below, long) in
     let lt_sizes : i < length c.loop-i.sizes = let long = c.loop-i.invariant.long_sizes in omega (arith, below, long) in
     let lt_left : i < length c.loop-i.left = let long = c.loop-i.invariant.long_left in omega (arith, below, long) in
-    let entry = to_z w128 (of_z w128 c.rounded_column-state.result.nearest) in
+    let entry = to_z w64 (of_z w64 c.low-nearest.result) in
     let size = get_or c.loop-i.sizes i 0 + c.unsigned_abs.result in
-    let left = get_or c.loop-i.left i 0 + unsigned_abs (to_z w128 (of_z w128 c.rounded_column-state.result.residue)) in
+    let left = get_or c.loop-i.left i 0 + c.rounded-state.result.residue in
     let still = c.loop-i.invariant.still i (omega arith) in
     record {
       long = length-set c.loop-i.moved i entry ∙ c.loop-i.invariant.long;

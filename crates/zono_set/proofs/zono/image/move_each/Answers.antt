@@ -1,4 +1,4 @@
-use Rattle.std.proofs.Common.{◌≡◌, ℕ, zero, suc, ◌+◌, ◌<◌, ◌≤◌, [], ◌++◌, length, length-append, length-drop, drop, replicate, set, get_or, List, ℤ, pos, ◌+ℤ◌, ◌*ℤ◌, ◌≤ℤ◌, unsigned_abs, refl, ap, ◌∙◌, sym, subst, arith}
+use Rattle.std.proofs.Common.{◌≡◌, ℕ, zero, suc, ◌<◌, ◌≤◌, [], ◌++◌, length, length-append, length-drop, drop, replicate, set, get_or, List, ℤ, pos, ◌*ℤ◌, ◌≤ℤ◌, unsigned_abs, refl, ap, ◌∙◌, sym, subst, arith}
 use Rattle.std.proofs.lemmas.Int.{ints}
 use Rattle.set_rules.specs.Sum.{total, magnitude}
 use Rattle.set_rules.specs.Columns.{at, entry, column_entry, tabulate}
@@ -7,7 +7,7 @@ use Rattle.set_rules.specs.Zono.{range}
 use Rattle.set_rules.proofs.Sums.{total-zero, magnitude-le-total}
 use Rattle.set_rules.proofs.ImageSets.{length-tabulate}
 use Rattle.fixed_mat.proofs.Bits.{next_sum}
-use Rattle.fixed_mat.proofs.Bits64.{total-prefix}
+use Rattle.fixed_mat.proofs.Fits.{total-prefix}
 use Rattle.fixed_mat.proofs.Columns.{tabulate-same}
 use Rattle.zono_set.proofs.Bound.{residues-within}
 use Rattle.zono_set.proofs.Steps.{next_column, replaced_more}
@@ -79,7 +79,7 @@ move_column-requires g c =
         (
           in_place n a old now t below moved,
           (
-            λ narrow i h. subst (λ (column : List ℤ). total n (λ l. magnitude (entry n a i l *ℤ at column l)) ≤ℤ pos 9_000_000_000_000_000_000) (sym (same_column n a old now t below moved)) (c.requires.narrow narrow i h t below),
+            λ i h. subst (λ (column : List ℤ). total n (λ l. magnitude (entry n a i l *ℤ at column l)) ≤ℤ pos g.W.Whole.limit) (sym (same_column n a old now t below moved)) (c.requires.products i h t below),
             (
               λ i h. entry_fits n a old now t below moved i (c.requires.fits i h),
               (

@@ -1,10 +1,9 @@
-use Rattle.std.proofs.Common.{◌≡◌, ◌≤◌, pos, unsigned_abs, to_z, of_z, sym, ap, ◌∙◌, arith}
-use mir.Syntax.{w64, w128}
+use Rattle.std.proofs.Common.{◌≡◌, ◌≤◌, pos, unsigned_abs, SFits, to_z, of_z, to_z-of_z, sym, ap, ◌∙◌, arith}
+use mir.Syntax.{w64}
 use Rattle.set_rules.specs.Sum.{magnitude}
 use Rattle.set_rules.specs.Columns.{entry}
 use Rattle.set_rules.proofs.Sums.{total-zero}
 use Rattle.fixed_mat.proofs.Bits.{next_sum}
-use Rattle.fixed_mat.proofs.Bits64.{narrowed}
 use Rattle.zono_set.proofs.zono.image.noise_reach.Given.{Over}
 use Rattle.zono_set.proofs.zono.image.noise_reach.Goals as goal
 use Rattle.zono_set.proofs.zono.image.noise_reach.Goals.{After-unsigned_abs-sum}
@@ -13,8 +12,8 @@ pub loop-t-init : goal.loop-t-init
 loop-t-init g c = record { so_far = sym (total-zero _); within = omega arith }
 
 module _ (g : Over) (c : After-unsigned_abs-sum g) where
-  same : to_z w64 (of_z w64 (to_z w128 (of_z w128 c.at.result))) ≡ c.at.result
-  same = narrowed c.at.result (let h = c.at.ensures.within in omega (arith, h))
+  same : to_z w64 (of_z w64 c.at.result) ≡ c.at.result
+  same = let fits : SFits w64 c.at.result = record { sfits = c.at.type_inv } in to_z-of_z fits
 
   size_small : c.unsigned_abs-sum.result ≤ 1_000_000_000_000_000_000
   size_small = let is = c.unsigned_abs-sum.ensures.value ∙ ap unsigned_abs same in let h = c.at.ensures.within in omega (arith, is, h)

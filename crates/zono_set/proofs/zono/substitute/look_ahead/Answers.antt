@@ -1,14 +1,15 @@
-use Rattle.std.proofs.Common.{◌≡◌, ◌+◌, ◌<◌, ◌≤◌, ◌≢◌, true, false, ◌&&◌, int_le, [], length, length-set, get_or-set_same, get_or-set_other, ℤ, ◌+ℤ◌, unsigned_abs, to_z, of_z, sym, ap, ◌∙◌, subst, below_more, arith}
+use Rattle.std.proofs.Common.{◌≡◌, ◌+◌, ◌<◌, ◌≤◌, ◌≢◌, true, false, ◌&&◌, int_le, int_lt, [], length, length-set, get_or-set_same, get_or-set_other, ℤ, pos, ◌+ℤ◌, ◌≤ℤ◌, unsigned_abs, to_z, of_z, refl, sym, ap, ◌∙◌, subst, below_more, arith}
 use Rattle.std.proofs.lemmas.Int.{ints}
 use Rattle.std.proofs.lemmas.List.FromFn.{length-map-range_with_len}
 use mir.Syntax.{w128}
-use Rattle.set_rules.specs.Sum.{total}
+use Rattle.set_rules.specs.Sum.{total, magnitude}
 use Rattle.set_rules.specs.Columns.{at, column_entry, row_magnitude}
 use Rattle.set_rules.specs.Zono.{Zono, reach, InRange}
 use Rattle.set_rules.specs.Gain.{substitution, in_range, spread}
 use Rattle.set_rules.proofs.Sums.{total-zero, total-magnitudes-low}
 use Rattle.fixed_mat.proofs.Bits.{back, sum_on, next_sum}
 use Rattle.fixed_mat.proofs.Columns.{pushes}
+use Rattle.zono_set.proofs.Steps.{narrow_fits, narrowed}
 use Rattle.zono_set.proofs.Ahead.{past-range, past-spread, within-both}
 use Rattle.zono_set.proofs.zono.substitute.look_ahead.Given.{Over}
 use Rattle.zono_set.proofs.zono.substitute.look_ahead.Goals as goal
@@ -95,21 +96,55 @@ push-requires-in-loop-i-2 g c =
     let small = c.len.ensures.height_small in
     (omega arith, omega arith)
 
+-- where a state is in range, its parts fit 64 bits
+parts_small : (reach centre size : ℤ) → reach ≡ magnitude centre +ℤ size → pos 0 ≤ℤ size → reach ≤ℤ pos 1_000_000_000_000_000_000
+    → (unsigned_abs centre ≤ 1_000_000_000_000_000_000) × (unsigned_abs size ≤ 1_000_000_000_000_000_000)
+parts_small reach centre size is low small = (omega (arith, ints), omega (arith, ints))
+
+no_more : (x y : ℤ) → int_lt x y ≡ false → y ≤ℤ x
+no_more x y test = omega (arith, ints, test)
+
+module _ (g : Over) (c : After-state_ahead-state g) (within : to_z w128 (of_z w128 c.state_ahead-state.result.reach) ≤ℤ pos 1_000_000_000_000_000_000) where
+  natural : pos 0 ≤ℤ c.state_ahead-state.result.size
+  natural =
+      let is = c.state_ahead-state.ensures.size in
+      let low = total-magnitudes-low (length (made g c (bits g c)).columns) (column_entry (made g c (bits g c)).columns c.loop-i.i) in
+      omega (arith, ints, is, low)
+
+  parts : (unsigned_abs c.state_ahead-state.result.centre ≤ 1_000_000_000_000_000_000) × (unsigned_abs c.state_ahead-state.result.size ≤ 1_000_000_000_000_000_000)
+  parts =
+      let same = back c.state_ahead-state.result.reach (let h = c.state_ahead-state.ensures.reach_within in omega arith) in
+      parts_small c.state_ahead-state.result.reach c.state_ahead-state.result.centre c.state_ahead-state.result.size c.state_ahead-state.ensures.parts natural
+      (subst (λ r. r ≤ℤ pos 1_000_000_000_000_000_000) same within)
+
+pub overflow_cast-state : goal.overflow_cast-state
+overflow_cast-state g c =
+    let here = (goal.at.overflow_cast-state g c).After-state_ahead-state in
+    let small = (parts g here (no_more _ _ c.if-state-gt1000000000000000000.false)).0 in
+    narrow_fits c.state_ahead-state.result.centre c.state_ahead-state.result.centre refl (omega (arith, small))
+
+pub overflow_cast-state-in-loop-i-2 : goal.overflow_cast-state-in-loop-i-2
+overflow_cast-state-in-loop-i-2 g c =
+    let here = (goal.at.overflow_cast-state-in-loop-i-2 g c).After-state_ahead-state in
+    let small = (parts g here (no_more _ _ c.if-state-gt1000000000000000000.false)).1 in
+    narrow_fits c.state_ahead-state.result.size c.state_ahead-state.result.size refl (omega (arith, small))
+
 pub loop-i-preserved : goal.loop-i-preserved
 loop-i-preserved g c =
     let here = (goal.at.loop-i-preserved g c).After-state_ahead-state in
     let reach = reach_is g here in
     let fits = c.if-state-gt1000000000000000000.false in
     let most = c.if-spread-before.false in
-    let centre_small = c.state_ahead-state.ensures.centre_within in
+    let small = parts g here (no_more _ _ fits) in
+    let centre_small = small.0 in
     let radius_small = c.state_ahead-state.ensures.radius_within in
-    let size_small = c.state_ahead-state.ensures.size_within in
+    let size_small = small.1 in
     let long = c.loop-i.invariant.long in
     record {
       long = length-set c.loop-i.rest c.loop-i.i _ ∙ long;
-      centre = pushes [] _ _ _ _ _ c.loop-i.invariant.centre c.push.ensures.items (back c.state_ahead-state.result.centre (omega arith) ∙ c.state_ahead-state.ensures.centre);
-      radii = pushes [] _ _ _ _ _ c.loop-i.invariant.radii c.push-in-loop-i.ensures.items (back c.state_ahead-state.result.radius (omega arith) ∙ c.state_ahead-state.ensures.radius);
-      sizes = pushes [] _ _ _ _ _ c.loop-i.invariant.sizes c.push-in-loop-i-2.ensures.items (back c.state_ahead-state.result.size (omega arith) ∙ c.state_ahead-state.ensures.size);
+      centre = pushes [] _ _ _ _ _ c.loop-i.invariant.centre c.push.ensures.items (narrowed c.state_ahead-state.result.centre c.state_ahead-state.result.centre refl (omega (arith, centre_small)) ∙ c.state_ahead-state.ensures.centre);
+      radii = pushes [] _ _ _ _ _ c.loop-i.invariant.radii c.push-in-loop-i.ensures.items (narrowed c.state_ahead-state.result.radius c.state_ahead-state.result.radius refl (omega (arith, radius_small)) ∙ c.state_ahead-state.ensures.radius);
+      sizes = pushes [] _ _ _ _ _ c.loop-i.invariant.sizes c.push-in-loop-i-2.ensures.items (narrowed c.state_ahead-state.result.size c.state_ahead-state.result.size refl (omega (arith, size_small)) ∙ c.state_ahead-state.ensures.size);
       fits = below_more _ _ c.loop-i.invariant.fits (omega (arith, ints, reach, fits));
       spread = spread_is g here;
       spread_low =
@@ -118,7 +153,8 @@ loop-i-preserved g c =
           let natural = total-magnitudes-low (length (made g here (bits g here)).columns) (column_entry (made g here (bits g here)).columns c.loop-i.i) in
           let so_far = c.loop-i.invariant.spread_low in
           let within = spread_small g here in
-          let sum = sum_on c.loop-i.spread-bits c.state_ahead-state.result.size (omega arith) (omega arith) in
+          let wide = c.state_ahead-state.ensures.size_within in
+          let sum = sum_on c.loop-i.spread-bits c.state_ahead-state.result.size (omega (arith, within)) (omega (arith, wide)) in
           omega (arith, ints, sum, one, natural, so_far);
       no_more = omega (arith, ints, most);
       rest =

@@ -1,6 +1,6 @@
-use Rattle.std.proofs.Common.{◌≡◌, ◌^◌, ◌≤◌, ◌≤ℤ◌, pos, length, ◌+ℤ◌, ◌-ℤ◌, ◌*ℤ◌, unsigned_abs, to_z, of_z, ap, ◌∙◌, sym, arith}
+use Rattle.std.proofs.Common.{◌≡◌, ◌^◌, ◌≤◌, ◌≤ℤ◌, ℤ, pos, length, ◌+ℤ◌, ◌-ℤ◌, ◌*ℤ◌, unsigned_abs, to_z, of_z, ap, ◌∙◌, sym, arith}
 use Rattle.std.proofs.lemmas.Int.{ints}
-use mir.Syntax.{w128}
+use mir.Syntax.{w64, w128}
 use Rattle.set_rules.specs.Sum.{total, magnitude}
 use Rattle.set_rules.specs.Columns.{at, column_entry, row_magnitude}
 use Rattle.set_rules.specs.Zono.{Zono}
@@ -9,7 +9,7 @@ use Rattle.set_rules.specs.Round.{rnd, residue, ceil_s}
 use Rattle.set_rules.specs.Gain.{substitution, residue_radius}
 use Rattle.set_rules.proofs.SubstitutionHolds.{centre-substitution, size-substitution, radius-natural}
 use Rattle.fixed_mat.proofs.Bits.{back, small_fits, entry-one, sum_back}
-use Rattle.zono_set.proofs.Steps.{slack_small}
+use Rattle.zono_set.proofs.Steps.{back64, slack_small}
 use Rattle.zono_set.proofs.zono.substitute.state_ahead.Given.{Over}
 use Rattle.zono_set.proofs.zono.substitute.state_ahead.Goals as goal
 use Rattle.zono_set.proofs.zono.substitute.state_ahead.Goals.{After-struct_told-4-1, After-abs}
@@ -21,11 +21,17 @@ module _ (g : Over) (c : After-struct_told-4-1 g) where
   abbrev inside : Zono
   inside = record { centre = c.args.centre.now; columns = c.args.cols.now }
 
-  gain_is : to_z w128 (of_z w128 c.at.result) ≡ at c.args.gain.now c.args.i
-  gain_is = back c.at.result (let h = c.at.ensures.within in omega arith) ∙ c.at.ensures.value ∙ entry-one c.args.gain.now c.args.i
+  gain_is : to_z w64 (of_z w64 c.at-gain.result) ≡ at c.args.gain.now c.args.i
+  gain_is = back64 c.at-gain.result (let h = c.at-gain.ensures.within in omega arith) ∙ c.at-gain.ensures.value ∙ entry-one c.args.gain.now c.args.i
 
-  same_gain : to_z w128 (of_z w128 c.at-2.result) ≡ at c.args.gain.now c.args.i
-  same_gain = back c.at-2.result (let h = c.at-2.ensures.within in omega arith) ∙ c.at-2.ensures.value ∙ entry-one c.args.gain.now c.args.i
+  centre_at : c.from.result ≡ at c.args.centre.now c.args.i
+  centre_at = c.from.ensures ∙ back64 c.at.result (let h = c.at.ensures.within in omega arith) ∙ c.at.ensures.value ∙ entry-one c.args.centre.now c.args.i
+
+  centre_small : unsigned_abs c.from.result ≤ 1_000_000_000_000_000_000
+  centre_small =
+      let is = ap unsigned_abs (c.from.ensures ∙ back64 c.at.result (let h = c.at.ensures.within in omega arith)) in
+      let h = c.at.ensures.within in
+      omega (arith, is, h)
 
   right_is : to_z w128 (of_z w128 c.args.b) ≡ c.args.b
   right_is = back c.args.b (let h = c.requires.right in omega arith)
@@ -37,10 +43,10 @@ module _ (g : Over) (c : After-struct_told-4-1 g) where
   left = c.rounded_share-of_right.ensures.residue ∙ (λ ι. residue (gain_is ι *ℤ right_is ι))
 
   sizes : c.take_shares-sums.result.size ≡ total (length c.args.a.now) (λ t. magnitude (column_entry c.args.cols.now c.args.i t -ℤ rnd (at c.args.gain.now c.args.i *ℤ at c.args.a.now t)))
-  sizes = c.take_shares-sums.ensures.size ∙ ap (λ l. total (length c.args.a.now) (λ t. magnitude (column_entry c.args.cols.now c.args.i t -ℤ rnd (l *ℤ at c.args.a.now t)))) same_gain
+  sizes = c.take_shares-sums.ensures.size ∙ ap (λ l. total (length c.args.a.now) (λ t. magnitude (column_entry c.args.cols.now c.args.i t -ℤ rnd (l *ℤ at c.args.a.now t)))) gain_is
 
   lefts : c.take_shares-sums.result.left ≡ total (length c.args.a.now) (λ t. residue (at c.args.gain.now c.args.i *ℤ at c.args.a.now t))
-  lefts = c.take_shares-sums.ensures.left ∙ ap (λ l. total (length c.args.a.now) (λ t. residue (l *ℤ at c.args.a.now t))) same_gain
+  lefts = c.take_shares-sums.ensures.left ∙ ap (λ l. total (length c.args.a.now) (λ t. residue (l *ℤ at c.args.a.now t))) gain_is
 
   radius_sum : c.ceil_s-radius.result ≡ ceil_s (c.rounded_share-of_right.result.residue +ℤ c.take_shares-sums.result.left)
   radius_sum =
@@ -73,11 +79,11 @@ module _ (g : Over) (c : After-struct_told-4-1 g) where
   size_is : c.take_shares-sums.result.size +ℤ c.ceil_s-radius.result ≡ row_magnitude (substitution g.row.N c.args.gain.now row inside).columns c.args.i
   size_is = (λ ι. sizes ι +ℤ radius_is ι) ∙ sym (size-substitution g.row.N 0 c.args.gain.now row inside c.args.i c.requires.row)
 
-  centre_sum : to_z w128 (of_z w128 (to_z w128 (of_z w128 c.at-3.result) +ℤ to_z w128 (of_z w128 c.rounded_share-of_right.result.nearest))) ≡ c.at-3.result +ℤ c.rounded_share-of_right.result.nearest
-  centre_sum = sum_back c.at-3.result c.rounded_share-of_right.result.nearest (let h = c.at-3.ensures.within in omega arith) (let h = c.rounded_share-of_right.ensures.within in omega arith)
+  centre_sum : to_z w128 (of_z w128 (to_z w128 (of_z w128 c.from.result) +ℤ to_z w128 (of_z w128 c.rounded_share-of_right.result.nearest))) ≡ c.from.result +ℤ c.rounded_share-of_right.result.nearest
+  centre_sum = sum_back c.from.result c.rounded_share-of_right.result.nearest (let h = centre_small in omega arith) (let h = c.rounded_share-of_right.ensures.within in omega arith)
 
-  centre_is : c.at-3.result +ℤ c.rounded_share-of_right.result.nearest ≡ at c.args.centre.now c.args.i +ℤ rnd (at c.args.gain.now c.args.i *ℤ c.args.b)
-  centre_is = λ ι. (c.at-3.ensures.value ∙ entry-one c.args.centre.now c.args.i) ι +ℤ nearest ι
+  centre_is : c.from.result +ℤ c.rounded_share-of_right.result.nearest ≡ at c.args.centre.now c.args.i +ℤ rnd (at c.args.gain.now c.args.i *ℤ c.args.b)
+  centre_is = λ ι. centre_at ι +ℤ nearest ι
 
 pub overflow_add-size : goal.overflow_add-size
 overflow_add-size g c =
@@ -86,13 +92,13 @@ overflow_add-size g c =
     let b = both_small g c in
     rw (back c.take_shares-sums.result.size (omega arith), back c.ceil_s-radius.result (omega arith)) (small_fits (c.take_shares-sums.result.size +ℤ c.ceil_s-radius.result) (omega arith))
 
-abs_is : (g : Over) (c : After-abs g) → let here = (goal.at.overflow_add-result g c).After-struct_told-4-1 in c.abs.result ≡ magnitude (c.at-3.result +ℤ c.rounded_share-of_right.result.nearest)
+abs_is : (g : Over) (c : After-abs g) → let here = (goal.at.overflow_add-result g c).After-struct_told-4-1 in c.abs.result ≡ magnitude (c.from.result +ℤ c.rounded_share-of_right.result.nearest)
 abs_is g c = let here = (goal.at.overflow_add-result g c).After-struct_told-4-1 in c.abs.ensures.value ∙ ap magnitude (centre_sum g here)
 
 abs_small : (g : Over) (c : After-abs g) → unsigned_abs c.abs.result ≤ 10 ^ 26
 abs_small g c =
     let is = abs_is g c in
-    let one = c.at-3.ensures.within in
+    let one = centre_small g (goal.at.overflow_add-result g c).After-struct_told-4-1 in
     let two = c.rounded_share-of_right.ensures.within in
     omega (arith, ints)
 
@@ -152,12 +158,22 @@ returns-clause-reach g c =
     let last = (goal.at.returns-clause-reach g c).After-abs in
     reach_sum g last ∙ (λ ι. (abs_is g last ∙ ap magnitude (centre_is g here ∙ sym (centre-substitution g.row.N 0 c.args.gain.now (row g here) (inside g here) c.args.i c.requires.row))) ι +ℤ size_is g here ι)
 
+pub returns-clause-parts : goal.returns-clause-parts
+returns-clause-parts g c =
+    let here = (goal.at.returns-clause-parts g c).After-struct_told-4-1 in
+    let last = (goal.at.returns-clause-parts g c).After-abs in
+    reach_sum g last ∙ (λ ι. (abs_is g last ∙ ap magnitude (sym (centre_sum g here))) ι +ℤ sym (size_sum g here) ι)
+
+-- what is left of a state is no more than what it reaches
+room_left : (abs size radius reach centre : ℤ) → reach ≡ abs +ℤ (size +ℤ radius) → abs ≡ magnitude centre → pos 0 ≤ℤ radius → reach ≤ℤ pos 1_000_000_000_000_000_000 → size ≤ℤ pos 1_000_000_000_000_000_000
+room_left abs size radius reach centre is natural low small = omega (arith, ints)
+
+low_as : (x y : ℤ) → x ≡ y → pos (unsigned_abs y) ≡ y → pos 0 ≤ℤ x
+low_as x y same low = omega (arith, ints)
+
 pub returns-clause-rest : goal.returns-clause-rest
 returns-clause-rest g c = λ small t h.
     let here = (goal.at.returns-clause-rest g c).After-struct_told-4-1 in
-    let reach_is = reach_sum g c in
-    let natural = radius-natural g.row.N 0 c.args.gain.now (row g here) (inside g here) c.args.i in
-    let radius = radius_is g here in
-    let centre = abs_is g c in
-    let fits : c.take_shares-sums.result.size ≤ℤ pos 1_000_000_000_000_000_000 = omega (arith, ints, small, reach_is, natural, radius, centre) in
-    c.take_shares-sums.ensures.rest fits t h ∙ ap (λ l. column_entry c.args.cols.now c.args.i t -ℤ rnd (l *ℤ at c.args.a.now t)) (same_gain g here)
+    let low = low_as c.ceil_s-radius.result (residue_radius c.args.gain.now (row g here) c.args.i) (radius_is g here) (radius-natural g.row.N 0 c.args.gain.now (row g here) (inside g here) c.args.i) in
+    let fits = room_left c.abs.result c.take_shares-sums.result.size c.ceil_s-radius.result _ (c.from.result +ℤ c.rounded_share-of_right.result.nearest) (reach_sum g c) (abs_is g c) low small in
+    c.take_shares-sums.ensures.rest fits t h ∙ ap (λ l. column_entry c.args.cols.now c.args.i t -ℤ rnd (l *ℤ at c.args.a.now t)) (gain_is g here)

@@ -1,12 +1,12 @@
 use Rattle.std.proofs.Common.{◌≡◌, ℕ, ◌+◌, ◌<◌, ◌≤◌, ◌⊎◌, ⊎_elim, length, ℤ, pos, ◌+ℤ◌, ◌-ℤ◌, ◌*ℤ◌, neg_ℤ, unsigned_abs, get_or, to_z, of_z, to_z-of_z, SFits, rules, arith, sym, ap, ◌∙◌}
 use Rattle.std.proofs.lemmas.Int.{ints}
 use Rattle.std.proofs.lemmas.List.{get_or-set_same, get_or-set_other, length-set}
-use mir.Syntax.{w64, w128}
+use mir.Syntax.{w64}
 use Rattle.std.proofs.Math.ListN.{set}
 use Rattle.set_rules.specs.Sum.{magnitude}
 use Rattle.set_rules.specs.Columns.{at}
 use Rattle.fixed_mat.proofs.Bits.{entry-one}
-use Rattle.fixed_mat.proofs.Bits64.{fits64, back64, narrowed}
+use Rattle.zono_set.proofs.Steps.{fits64, back64}
 use Rattle.zono_set.proofs.zono.unrounded.add_column.Given.{Over}
 use Rattle.zono_set.proofs.zono.unrounded.add_column.Goals as goal
 use Rattle.zono_set.proofs.zono.unrounded.add_column.Goals.{After-at, After-sizes-1}
@@ -20,7 +20,7 @@ overflow_mul-entry g c =
     let entry = at c.args.column.now c.loop-i.i in
     let scaled = c.requires.scaled c.loop-i.i below in
     let small = unscaled entry scaled in
-    rw (narrowed entry (omega arith)) (fits64 (pos 1_000_000_000 *ℤ entry) (omega arith))
+    rw (back64 entry (omega arith)) (fits64 (pos 1_000_000_000 *ℤ entry) (omega arith))
 
 module _ (g : Over) (c : After-at g) where
   abbrev i : ℕ
@@ -38,23 +38,23 @@ module _ (g : Over) (c : After-at g) where
   abbrev left : ℤ
   left = pos 1_000_000_000 *ℤ entry -ℤ product
 
-  scaled_is : to_z w64 (of_z w64 (pos 1_000_000_000 *ℤ to_z w64 (of_z w64 (to_z w128 (of_z w128 entry))))) ≡ pos 1_000_000_000 *ℤ entry
+  scaled_is : to_z w64 (of_z w64 (pos 1_000_000_000 *ℤ to_z w64 (of_z w64 entry))) ≡ pos 1_000_000_000 *ℤ entry
   scaled_is =
       let scaled = c.requires.scaled i below in
       let small = unscaled entry scaled in
-      ap (λ v. to_z w64 (of_z w64 (pos 1_000_000_000 *ℤ v))) (narrowed entry (omega arith)) ∙ back64 (pos 1_000_000_000 *ℤ entry) (omega arith)
+      ap (λ v. to_z w64 (of_z w64 (pos 1_000_000_000 *ℤ v))) (back64 entry (omega arith)) ∙ back64 (pos 1_000_000_000 *ℤ entry) (omega arith)
 
-  factors : to_z w64 (of_z w64 (to_z w128 (of_z w128 c.at.result))) *ℤ to_z w64 (of_z w64 c.args.number) ≡ product
+  factors : to_z w64 (of_z w64 c.at.result) *ℤ to_z w64 (of_z w64 c.args.number) ≡ product
   factors =
-      let gain = narrowed c.at.result (let h = c.at.ensures.within in omega arith) ∙ c.at.ensures.value ∙ entry-one c.args.gain.now i in
+      let gain = back64 c.at.result (let h = c.at.ensures.within in omega arith) ∙ c.at.ensures.value ∙ entry-one c.args.gain.now i in
       λ j. gain j *ℤ to_z-of_z c.ranges.number j
 
-  share_is : to_z w64 (of_z w64 (to_z w64 (of_z w64 (to_z w128 (of_z w128 c.at.result))) *ℤ to_z w64 (of_z w64 c.args.number))) ≡ product
+  share_is : to_z w64 (of_z w64 (to_z w64 (of_z w64 c.at.result) *ℤ to_z w64 (of_z w64 c.args.number))) ≡ product
   share_is = ap (λ v. to_z w64 (of_z w64 v)) factors ∙ back64 product (let h = c.requires.shares i below in omega arith)
 
   abbrev difference : ℤ
-  difference = to_z w64 (of_z w64 (pos 1_000_000_000 *ℤ to_z w64 (of_z w64 (to_z w128 (of_z w128 entry)))))
-      -ℤ to_z w64 (of_z w64 (to_z w64 (of_z w64 (to_z w128 (of_z w128 c.at.result))) *ℤ to_z w64 (of_z w64 c.args.number)))
+  difference = to_z w64 (of_z w64 (pos 1_000_000_000 *ℤ to_z w64 (of_z w64 entry)))
+      -ℤ to_z w64 (of_z w64 (to_z w64 (of_z w64 c.at.result) *ℤ to_z w64 (of_z w64 c.args.number)))
 
   difference_is : difference ≡ left
   difference_is = λ j. scaled_is j -ℤ share_is j

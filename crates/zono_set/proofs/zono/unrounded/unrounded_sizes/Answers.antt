@@ -5,7 +5,7 @@ use Rattle.set_rules.specs.Sum.{total, magnitude}
 use Rattle.set_rules.specs.Columns.{at, column_entry}
 use Rattle.set_rules.proofs.Sums.{total-zero, total-magnitudes-low}
 use Rattle.fixed_mat.proofs.Bits.{next_sum}
-use Rattle.fixed_mat.proofs.Bits64.{narrowed}
+use Rattle.zono_set.proofs.Steps.{narrowed}
 use Rattle.zono_set.proofs.Taken.{zeros-at}
 use Rattle.zono_set.proofs.Unrounded.{entry-narrow, share-narrow, raw-narrow, some-narrow, number-narrow}
 use Rattle.zono_set.proofs.zono.unrounded.unrounded_sizes.Given.{Over}
@@ -25,8 +25,7 @@ module _ (g : Over) (c : After-at g) where
   number_is : to_z w64 (of_z w64 (to_z w128 (of_z w128 c.at.result))) ≡ number
   number_is =
       let small = number-narrow c.args.a.now c.loop-t.t (let h = below in let k = c.requires.len in omega arith) c.requires.numbers in
-      let same = ap unsigned_abs c.at.ensures.value in
-      narrowed c.at.result (omega arith) ∙ c.at.ensures.value
+      narrowed c.at.result number c.at.ensures.value (omega (arith, small))
 
   abbrev entry : ℕ → ℕ → ℤ
   entry k t = column_entry c.args.cols.now k t

@@ -18,9 +18,9 @@ use Rattle.zono_set.proofs.Steps.{filled-all}
 use Rattle.zono_set.proofs.Kept.{added-are, added-within}
 use Rattle.zono_set.proofs.Taken.{used-in_range}
 use Rattle.zono_set.proofs.Ahead.{substitution-same}
-use Rattle.zono_set.proofs.zono.Zono.substitute.Given.{Over}
-use Rattle.zono_set.proofs.zono.Zono.substitute.Goals as goal
-use Rattle.zono_set.proofs.zono.Zono.substitute.Goals.{After-look_ahead, After-deref, After-push_radii}
+use Rattle.zono_set.proofs.zono.Zono.substitute_in.Given.{Over}
+use Rattle.zono_set.proofs.zono.Zono.substitute_in.Goals as goal
+use Rattle.zono_set.proofs.zono.Zono.substitute_in.Goals.{After-look_ahead, After-deref, After-push_radii}
 
 module _ (g : Over) (c : After-look_ahead g) where
   abbrev bits : ℤ
