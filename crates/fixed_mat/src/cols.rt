@@ -60,6 +60,13 @@ impl<const N: usize> Cols<N> {
         let _ = &self.cells;
     }
 
+    /// Tells that each column has an entry for each row, as the type keeps it.
+    pub fn tell_heights(&self)
+        ensures { All (λ column. length column ≡ N) self.now }
+    {
+        let _ = &self.cells;
+    }
+
     /// The entry of column `t` in row `i`.
     pub fn at(&self, i: usize, t: usize) -> i64
         requires row { i < N }

@@ -1,7 +1,9 @@
 -- What a model file gives: names, and named plants.
 use Rattle.std.specs.Prelude.{◌≡◌, ℕ, ◌≤◌, List, [], length}
 use Rattle.std.specs.List.{All}
+use Rattle.plant_model.specs.Counts.{most_inputs, most_outputs}
 use Rattle.plant_model.specs.Plant.{Plant}
+use Rattle.model_file.specs.Limits.{most_models}
 
 -- a model: its name and its plant
 pub record Named : Type 0 where
@@ -19,11 +21,11 @@ HasCounts inputs outputs m = (m.plant.inputs ≡ inputs) × (m.plant.outputs ≡
 
 -- at most 4 inputs, 1 to 6 outputs, and 1 to 16 models of these counts
 pub record IsModels (b : Models) : Type 0 where
-  pub few_inputs : length b.inputs ≤ 4
+  pub few_inputs : length b.inputs ≤ most_inputs
   pub some_output : 1 ≤ length b.outputs
-  pub few_outputs : length b.outputs ≤ 6
+  pub few_outputs : length b.outputs ≤ most_outputs
   pub some_model : 1 ≤ length b.models
-  pub few_models : length b.models ≤ 16
+  pub few_models : length b.models ≤ most_models
   pub counts : All (HasCounts (length b.inputs) (length b.outputs)) b.models
 
 -- what stands past the last model

@@ -4,6 +4,7 @@ use Rattle.std.specs.Str.{is_utf8}
 use Rattle.toml.specs.Data.{Data, table, as_integer}
 use Rattle.toml.specs.Parse.{parse_document}
 use Rattle.dec_text.specs.Steps.{◌>>=◌, given, passing}
+use Rattle.model_file.specs.Limits.{most_models}
 use Rattle.model_file.specs.Places.{of_file, of_model}
 use Rattle.model_file.specs.Reads.{Judged, value_at, of_kind, an_array, at_most, not_empty}
 use Rattle.model_file.specs.Names.{inputs_of, outputs_of}
@@ -29,12 +30,14 @@ is_one (negsuc n) = false
 -- the version has to be 1
 unfoldable pub version_of : Data → Judged (Unit {0})
 version_of root =
-    value_at (of_file Field.Version) root >>= λ v. of_kind (of_file Field.Version) (as_integer v) >>= passing is_one (fault.Kind (of_file Field.Version)) >>= λ one. Ok tt
+    value_at (of_file Field.Version) root >>= λ v. of_kind (of_file Field.Version) (as_integer v)
+    >>= passing is_one (fault.Kind (of_file Field.Version)) >>= λ one. Ok tt
 
 -- the tables of the models, each seen to be a table before any is read
 unfoldable pub tables_of : Data → Judged (List Data)
 tables_of root =
-    value_at (of_file Field.Models) root >>= an_array (of_file Field.Models) >>= at_most 16 Count.Models >>= not_empty (of_file Field.Models) >>= are_tables 0
+    value_at (of_file Field.Models) root >>= an_array (of_file Field.Models) >>= at_most most_models Count.Models
+    >>= not_empty (of_file Field.Models) >>= are_tables 0
 
 -- what a document says
 unfoldable pub models_in : Data → Judged Models

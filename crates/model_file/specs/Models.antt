@@ -5,6 +5,7 @@ use Rattle.set_rules.specs.Limits.{coef}
 use Rattle.set_rules.specs.Zono.{range}
 use Rattle.plant_model.specs.Plant.{Plant}
 use Rattle.dec_text.specs.Steps.{◌>>=◌, passing}
+use Rattle.model_file.specs.Limits.{most_entries}
 use Rattle.model_file.specs.Places.{of_model}
 use Rattle.model_file.specs.Reads.{Judged, value_at, of_kind}
 use Rattle.model_file.specs.Names.{name_of}
@@ -22,8 +23,9 @@ is_at_least least (negsuc n) = false
 -- an integer from `least` to 8, in model i
 unfoldable pub count_of : ℕ → Field → Count → ℕ → Data → Judged ℕ
 count_of i f what least model =
-    value_at (of_model i f) model >>= λ v. of_kind (of_model i f) (as_integer v) >>= passing (is_at_least least) (fault.Kind (of_model i f))
-    >>= λ z. passing (λ n. nat_le n 8) (fault.TooMany what (unsigned_abs z) (Some i)) (unsigned_abs z)
+    value_at (of_model i f) model >>= λ v. of_kind (of_model i f) (as_integer v)
+    >>= passing (is_at_least least) (fault.Kind (of_model i f))
+    >>= λ z. passing (λ n. nat_le n most_entries) (fault.TooMany what (unsigned_abs z) (Some i)) (unsigned_abs z)
 
 pub record Matrices : Type 0 where
   pub a : List ℤ

@@ -3,6 +3,8 @@ use Rattle.std.specs.Prelude.{ℕ, ◌+◌, ◌-◌, Bool, ◌&&◌, not, ◌==�
 use Rattle.std.specs.List.{list_all, list_any}
 use Rattle.toml.specs.Data.{Data, get, as_str}
 use Rattle.dec_text.specs.Steps.{◌>>=◌, passing}
+use Rattle.plant_model.specs.Counts.{most_inputs, most_outputs, most_name_bytes}
+use Rattle.model_file.specs.Limits.{most_model_name_bytes}
 use Rattle.model_file.specs.Places.{field_text, of_file, of_model, item_of}
 use Rattle.model_file.specs.Reads.{Judged, value_at, of_kind, an_array, at_most, not_empty}
 use Rattle.model_file.specs.declared.place.Field.{Field}
@@ -24,10 +26,10 @@ abbrev pub is_printable : ℕ → Bool
 is_printable b = nat_le 32 b && nat_le b 126
 
 abbrev pub is_column_name : List ℕ → Bool
-is_column_name text = is_name is_column_byte 64 text
+is_column_name text = is_name is_column_byte most_name_bytes text
 
 abbrev pub is_model_name : List ℕ → Bool
-is_model_name text = is_name is_printable 32 text
+is_model_name text = is_name is_printable most_model_name_bytes text
 
 -- a text in the form of a name that is none of the earlier ones
 abbrev pub new_name : (List ℕ → Bool) → List (List ℕ) → Path → Data → Judged (List ℕ)
@@ -41,7 +43,7 @@ columns_from path i earlier (d ∷ ds) =
 
 abbrev pub inputs_in : Option Data → Judged (List (List ℕ))
 inputs_in None = Ok []
-inputs_in (Some d) = an_array (of_file Field.Inputs) d >>= at_most 4 Count.Inputs >>= columns_from (of_file Field.Inputs) 0 []
+inputs_in (Some d) = an_array (of_file Field.Inputs) d >>= at_most most_inputs Count.Inputs >>= columns_from (of_file Field.Inputs) 0 []
 
 -- the names of the inputs, whose array may be absent
 unfoldable pub inputs_of : Data → Judged (List (List ℕ))
@@ -50,8 +52,8 @@ inputs_of root = inputs_in (get (field_text Field.Inputs) root)
 -- the names of the outputs, which differ from those of the inputs
 unfoldable pub outputs_of : List (List ℕ) → Data → Judged (List (List ℕ))
 outputs_of inputs root =
-    value_at (of_file Field.Outputs) root >>= an_array (of_file Field.Outputs) >>= at_most 6 Count.Outputs >>= not_empty (of_file Field.Outputs)
-    >>= columns_from (of_file Field.Outputs) 0 inputs
+    value_at (of_file Field.Outputs) root >>= an_array (of_file Field.Outputs) >>= at_most most_outputs Count.Outputs
+    >>= not_empty (of_file Field.Outputs) >>= columns_from (of_file Field.Outputs) 0 inputs
 
 -- the name of model i, after those of the models before it
 unfoldable pub name_of : List (List ℕ) → ℕ → Data → Judged (List ℕ)

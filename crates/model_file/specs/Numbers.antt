@@ -50,7 +50,8 @@ zeros n = replicate n (pos 0)
 -- so many numbers, each passing the test at its index, at the front of a list of zeros of this length
 unfoldable pub vector : ℕ → (ℕ → ℤ → Bool) → Path → ℕ → Data → Judged (List ℤ)
 vector room test path want model =
-    value_at path model >>= array_of want path >>= each_from 0 (λ i. entry (test i) (item_of path i)) >>= λ xs. Ok (written (zeros room) 0 xs)
+    value_at path model >>= array_of want path >>= each_from 0 (λ i. entry (test i) (item_of path i))
+    >>= λ xs. Ok (written (zeros room) 0 xs)
 
 -- the row of a matrix at a place
 abbrev pub row_of : ℕ → Path → ℕ → Data → Judged (List ℤ)
@@ -66,7 +67,8 @@ row_written wide most path m width r d = row_of most path width d >>= λ xs. Ok 
 -- rows of numbers within a limit, in the corner of a matrix of zeros of this height and width
 unfoldable pub matrix : ℕ → ℕ → ℕ → Path → ℕ → ℕ → Data → Judged (List ℤ)
 matrix high wide most path height width model =
-    value_at path model >>= array_of height path >>= each_from 0 (λ r. row_of most (item_of path r) width) >>= λ rows. Ok (rows_written wide (zeros (high * wide)) 0 rows)
+    value_at path model >>= array_of height path >>= each_from 0 (λ r. row_of most (item_of path r) width)
+    >>= λ rows. Ok (rows_written wide (zeros (high * wide)) 0 rows)
 
 -- a matrix of no columns is not read
 unfoldable pub matrix_unless_empty : ℕ → ℕ → ℕ → Path → ℕ → ℕ → Data → Judged (List ℤ)

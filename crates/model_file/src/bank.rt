@@ -1,7 +1,9 @@
 //! What a model file gives.
 
 ghost use Rattle.std.specs.Prelude.{◌≡◌, ◌<◌, ◌≤◌, length, slice_index_or};
+ghost use Rattle.plant_model.specs.Counts.{most_inputs, most_outputs};
 ghost use Rattle.plant_model.specs.Seen.{plant_of};
+ghost use Rattle.model_file.specs.Limits.{most_models, most_model_name_bytes};
 
 use arrayvec::ArrayString;
 use plant_model::{AnyPlant, Names};
@@ -55,7 +57,7 @@ impl Bank0 {
     /// The names of the inputs.
     pub fn inputs(&self) -> &Names
         ensures value { result.now ≡ self.now.inputs }
-        ensures few { length result.now ≤ 4 }
+        ensures few { length result.now ≤ most_inputs }
     {
         &self.inputs
     }
@@ -64,7 +66,7 @@ impl Bank0 {
     pub fn outputs(&self) -> &Names
         ensures value { result.now ≡ self.now.outputs }
         ensures some { 1 ≤ length result.now }
-        ensures few { length result.now ≤ 6 }
+        ensures few { length result.now ≤ most_outputs }
     {
         &self.outputs
     }
@@ -73,7 +75,7 @@ impl Bank0 {
     pub fn count(&self) -> usize
         ensures value { result ≡ length self.now.models }
         ensures some { 1 ≤ result }
-        ensures few { result ≤ 16 }
+        ensures few { result ≤ most_models }
         ensures limits { IsModels self.now }
     {
         self.models.len()
@@ -83,7 +85,7 @@ impl Bank0 {
     pub fn name(&self, i: usize) -> &str
         requires { i < length self.now.models }
         ensures value { result.now ≡ (slice_index_or self.now.models i no_model).name }
-        ensures short { length result.now ≤ 32 }
+        ensures short { length result.now ≤ most_model_name_bytes }
     {
         let model = &self.models[i];
         model.name.as_str()

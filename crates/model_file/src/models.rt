@@ -3,6 +3,8 @@
 ghost use Rattle.std.specs.Prelude.{◌≡◌, ◌≤◌, ◌⊎◌, [], length, map, IfOk, IfErr, bytes_eq};
 ghost use Rattle.std.specs.List.{list_any};
 ghost use Rattle.toml.specs.View.{view};
+ghost use Rattle.plant_model.specs.Counts.{most_inputs, most_outputs};
+ghost use Rattle.model_file.specs.Limits.{most_models, most_model_name_bytes};
 ghost use Rattle.model_file.specs.Reads.{map_ok};
 ghost use Rattle.model_file.specs.Names.{name_of};
 ghost use Rattle.model_file.specs.Models.{model_of, models_from};
@@ -40,7 +42,7 @@ fn model_name<'a>(
 ) -> Result<&'a str, ModelFault>
     ensures value { map_ok (λ text. text.now) result
         ≡ name_of (map name_seen earlier.now) model (view table.now) }
-    ensures short { IfOk result (λ text. length text.now ≤ 32) }
+    ensures short { IfOk result (λ text. length text.now ≤ most_model_name_bytes) }
 {
     let path = Path::of_model(model, Field::Name);
     let text = value_at(table, path)?
@@ -62,9 +64,9 @@ fn model(
     model: u32,
     table: &Value,
 ) -> Result<NamedPlant, ModelFault>
-    requires few_inputs { inputs ≤ 4 }
+    requires few_inputs { inputs ≤ most_inputs }
     requires some_output { 1 ≤ outputs }
-    requires few_outputs { outputs ≤ 6 }
+    requires few_outputs { outputs ≤ most_outputs }
     ensures { map_ok named result ≡ model_of inputs outputs (map name_seen earlier.now) model (view table.now) }
 {
     let text = model_name(earlier, model, table)?;
@@ -88,10 +90,10 @@ pub fn models(
     outputs: usize,
     tables: &[Value],
 ) -> Result<Vec<NamedPlant>, ModelFault>
-    requires few_inputs { inputs ≤ 4 }
+    requires few_inputs { inputs ≤ most_inputs }
     requires some_output { 1 ≤ outputs }
-    requires few_outputs { outputs ≤ 6 }
-    requires few_models { length tables.now ≤ 16 }
+    requires few_outputs { outputs ≤ most_outputs }
+    requires few_models { length tables.now ≤ most_models }
     ensures ok { IfOk result (λ v. models_from inputs outputs [] 0 (map view tables.now) ≡ Ok (map named v.items)) }
     ensures err { IfErr result (λ e. (e ≡ ModelFault.Memory) ⊎ (models_from inputs outputs [] 0 (map view tables.now) ≡ Err e)) }
 {

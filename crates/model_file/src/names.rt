@@ -3,8 +3,10 @@
 ghost use Rattle.std.specs.Prelude.{◌≡◌, ◌≤◌, ◌++◌, length, map, IfOk};
 ghost use Rattle.std.specs.List.{list_all};
 ghost use Rattle.toml.specs.View.{view};
+ghost use Rattle.plant_model.specs.Counts.{most_inputs, most_outputs, most_names, most_name_bytes};
 ghost use Rattle.model_file.specs.Reads.{map_ok};
-ghost use Rattle.model_file.specs.Names.{has_no_outer_spaces, is_column_byte, is_printable, is_column_name, is_model_name, new_name, columns_from, inputs_of, outputs_of};
+ghost use Rattle.model_file.specs.Names.{has_no_outer_spaces, is_column_byte, is_printable, is_column_name, is_model_name};
+ghost use Rattle.model_file.specs.Names.{new_name, columns_from, inputs_of, outputs_of};
 
 use crate::reads::{an_array, at_most, not_empty, value_at};
 use crate::{Count, Field, ModelFault, Path};
@@ -52,7 +54,7 @@ fn new_column<'a>(
 ) -> Result<&'a str, ModelFault>
     ensures value { map_ok (λ text. text.now) result
         ≡ new_name is_column_name (earlier.now ++ names.now) path (view value.now) }
-    ensures short { IfOk result (λ text. length text.now ≤ 64) }
+    ensures short { IfOk result (λ text. length text.now ≤ most_name_bytes) }
 {
     let text = value.as_str().ok_or(ModelFault::Kind { path })?;
     if is_column_name(text.as_bytes()) && !earlier.contains(text) && !names.contains(text) {
@@ -64,7 +66,7 @@ fn new_column<'a>(
 
 /// The names of an array, which differ from each other and from the earlier ones.
 fn columns(earlier: &Names, array: &[Value], path: Path) -> Result<Names, ModelFault>
-    requires { length array.now ≤ 6 }
+    requires { length array.now ≤ most_names }
     ensures value { result ≡ columns_from path 0 earlier.now (map view array.now) }
     ensures size { IfOk result (λ names. length names ≡ length array.now) }
 {
@@ -80,7 +82,7 @@ fn columns(earlier: &Names, array: &[Value], path: Path) -> Result<Names, ModelF
 #[tactic(auto, unfolding(crate::specs::Names::inputs_of))]
 pub fn inputs(root: &Value) -> Result<Names, ModelFault>
     ensures value { result ≡ inputs_of (view root.now) }
-    ensures few { IfOk result (λ names. length names ≤ 4) }
+    ensures few { IfOk result (λ names. length names ≤ most_inputs) }
 {
     match root.get(Field::Inputs.key()) {
         None => Ok(Names::new()),
@@ -97,7 +99,7 @@ pub fn inputs(root: &Value) -> Result<Names, ModelFault>
 pub fn outputs(inputs: &Names, root: &Value) -> Result<Names, ModelFault>
     ensures value { result ≡ outputs_of inputs.now (view root.now) }
     ensures some { IfOk result (λ names. 1 ≤ length names) }
-    ensures few { IfOk result (λ names. length names ≤ 6) }
+    ensures few { IfOk result (λ names. length names ≤ most_outputs) }
 {
     let path = Path::of_file(Field::Outputs);
     let array = an_array(value_at(root, path)?, path)?;

@@ -3,7 +3,9 @@
 ghost use Rattle.std.specs.Prelude.{◌≡◌, ◌*◌, ◌<◌, ◌≤◌};
 ghost use Rattle.toml.specs.View.{view};
 ghost use Rattle.model_file.specs.Reads.{map_ok};
-ghost use Rattle.model_file.specs.Numbers.{number_in, entry_written, row_written, matrix, matrix_unless_empty, number_written, vector, is_from, is_radius};
+ghost use Rattle.model_file.specs.Limits.{most_entries};
+ghost use Rattle.model_file.specs.Numbers.{number_in, entry_written, row_written, number_written, is_from, is_radius};
+ghost use Rattle.model_file.specs.Numbers.{matrix, matrix_unless_empty, vector};
 
 use crate::reads::{array_of, value_at};
 use crate::{ModelFault, Path};
@@ -50,7 +52,7 @@ fn write_row<const R: usize, const C: usize, L: Limit>(
     path: Path,
 ) -> Result<(), ModelFault>
     requires row { r < R }
-    requires narrow { width ≤ 8 }
+    requires narrow { width ≤ most_entries }
     requires fits { width ≤ C }
     ensures { map_ok (λ _. matrix.new) result
         ≡ row_written C L.LIM path matrix.old width r (view value.now) }
@@ -72,9 +74,9 @@ pub fn matrix<const R: usize, const C: usize, L: Limit>(
 ) -> Result<Mat<R, C, L>, ModelFault>
     requires room { R * C ≤ 64 }
     requires high { height ≤ R }
-    requires short { height ≤ 8 }
+    requires short { height ≤ most_entries }
     requires wide { width ≤ C }
-    requires narrow { width ≤ 8 }
+    requires narrow { width ≤ most_entries }
     ensures { result ≡ matrix R C L.LIM path height width (view table.now) }
 {
     let rows = array_of(height, value_at(table, path)?, path)?;
@@ -95,9 +97,9 @@ pub fn matrix_unless_empty<const R: usize, const C: usize, L: Limit>(
 ) -> Result<Mat<R, C, L>, ModelFault>
     requires room { R * C ≤ 64 }
     requires high { height ≤ R }
-    requires short { height ≤ 8 }
+    requires short { height ≤ most_entries }
     requires wide { width ≤ C }
-    requires narrow { width ≤ 8 }
+    requires narrow { width ≤ most_entries }
     ensures { result ≡ matrix_unless_empty R C L.LIM path height width (view table.now) }
 {
     if width == 0 {
@@ -133,7 +135,7 @@ pub fn vector<const R: usize>(
     want: usize,
     least: i128,
 ) -> Result<Mat<R, 1, Range>, ModelFault>
-    requires room { R ≤ 8 }
+    requires room { R ≤ most_entries }
     requires fits { want ≤ R }
     ensures { result ≡ vector R (λ _. is_from least) path want (view table.now) }
 {
@@ -158,7 +160,7 @@ fn write_radius<const R: usize>(
         ≡ number_written (is_radius centre.now i) path radii.old i (view value.now) }
 {
     let z = number(value, path)?;
-    if z < 0 || z.unsigned_abs() > RANGE - centre.at(i, 0).unsigned_abs() {
+    if z < 0 || z.unsigned_abs() > RANGE - u128::from(centre.at(i, 0).unsigned_abs()) {
         return Err(ModelFault::Over { path });
     }
     radii.set(i, 0, z).map_err(|_| ModelFault::Over { path })
@@ -171,7 +173,7 @@ pub fn radii<const R: usize>(
     path: Path,
     centre: &Mat<R, 1, Range>,
 ) -> Result<Mat<R, 1, Range>, ModelFault>
-    requires { R ≤ 8 }
+    requires { R ≤ most_entries }
     ensures { result ≡ vector R (is_radius centre.now) path R (view table.now) }
 {
     let numbers = array_of(R, value_at(table, path)?, path)?;

@@ -3,6 +3,8 @@
 ghost use Rattle.std.specs.Prelude.{◌≡◌, ◌≤◌, IfOk};
 ghost use Rattle.toml.specs.View.{view};
 ghost use Rattle.plant_model.specs.Seen.{plant_of};
+ghost use Rattle.set_rules.specs.Limits.{most_states};
+ghost use Rattle.model_file.specs.Limits.{most_entries};
 ghost use Rattle.model_file.specs.Reads.{map_ok};
 
 use crate::numbers::{matrix, matrix_unless_empty, radii, vector};
@@ -54,7 +56,7 @@ impl Counts {
     ) -> Result<usize, ModelFault>
         ensures value { result ≡ count_of model field what least (view table.now) }
         ensures low { IfOk result (λ n. least ≤ n) }
-        ensures high { IfOk result (λ n. n ≤ 8) }
+        ensures high { IfOk result (λ n. n ≤ most_entries) }
     {
         let path = Path::of_model(model, field);
         let number = value_at(table, path)?
@@ -77,7 +79,7 @@ impl Counts {
     #[tactic(auto, unfolding(crate::specs::Models::matrices_of))]
     fn matrices<const N: usize>(self, table: &Value, model: u32) -> Result<Matrices<N>, ModelFault>
         requires some { 1 ≤ N }
-        requires few { N ≤ 8 }
+        requires few { N ≤ most_states }
         requires counts { AreCounts self }
         ensures { map_ok matrices_seen result ≡ matrices_of model N self (view table.now) }
     {
@@ -98,7 +100,7 @@ impl Counts {
     #[tactic(auto, unfolding(crate::specs::Models::bounds_of))]
     fn bounds<const N: usize>(self, table: &Value, model: u32) -> Result<Bounds<N>, ModelFault>
         requires some { 1 ≤ N }
-        requires few { N ≤ 8 }
+        requires few { N ≤ most_states }
         requires counts { AreCounts self }
         ensures { map_ok bounds_seen result ≡ bounds_of model N self (view table.now) }
     {
@@ -117,7 +119,7 @@ impl Counts {
     /// The plant of a model of `N` states.
     fn plant<const N: usize>(self, table: &Value, model: u32) -> Result<Plant<N>, ModelFault>
         requires some { 1 ≤ N }
-        requires few { N ≤ 8 }
+        requires few { N ≤ most_states }
         requires counts { AreCounts self }
         ensures { result ≡ plant_in model N self (view table.now) }
     {
@@ -143,7 +145,7 @@ impl Counts {
     /// The plant of a model of so many states, from 1 to 8.
     pub fn any_plant(self, states: usize, table: &Value, model: u32) -> Result<AnyPlant, ModelFault>
         requires some { 1 ≤ states }
-        requires few { states ≤ 8 }
+        requires few { states ≤ most_states }
         requires counts { AreCounts self }
         ensures { map_ok plant_of result ≡ plant_in model states self (view table.now) }
     {

@@ -2,6 +2,7 @@
 
 ghost use Rattle.std.specs.Prelude.{◌≡◌, ◌≤◌, ◌⊎◌, length, map, IfOk, IfErr};
 ghost use Rattle.toml.specs.View.{view};
+ghost use Rattle.model_file.specs.Limits.{most_models};
 ghost use Rattle.model_file.specs.Reads.{map_ok};
 ghost use Rattle.model_file.specs.ModelFile.{version_of, are_tables, tables_of, models_in, document_of, models_of};
 
@@ -77,7 +78,7 @@ fn check_version(root: &Value) -> Result<(), ModelFault>
 fn tables(root: &Value) -> Result<&[Value], ModelFault>
     ensures value { map_ok (λ v. map view v.now) result ≡ tables_of (view root.now) }
     ensures some { IfOk result (λ v. 1 ≤ length v.now) }
-    ensures few { IfOk result (λ v. length v.now ≤ 16) }
+    ensures few { IfOk result (λ v. length v.now ≤ most_models) }
 {
     let path = Path::of_file(Field::Models);
     let array = an_array(value_at(root, path)?, path)?;
@@ -88,7 +89,7 @@ fn tables(root: &Value) -> Result<&[Value], ModelFault>
 
 /// Whether each item is a table.
 fn check_tables(array: &[Value]) -> Result<(), ModelFault>
-    requires { length array.now ≤ 16 }
+    requires { length array.now ≤ most_models }
     ensures { map_ok (λ _. map view array.now) result ≡ are_tables 0 (map view array.now) }
 {
     for (i, member) in array.iter().enumerate() {

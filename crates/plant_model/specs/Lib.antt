@@ -1,3 +1,4 @@
+pub mod Counts
 pub mod Plant
 pub mod SampleLimits
 pub mod Seen

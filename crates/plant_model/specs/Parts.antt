@@ -4,6 +4,8 @@ use Rattle.std.specs.List.{list_all}
 use Rattle.set_rules.specs.Columns.{at}
 use Rattle.set_rules.specs.Tests.{first_below}
 use Rattle.set_rules.specs.Zono.{range}
+use Rattle.set_rules.specs.Limits.{most_states}
+use Rattle.plant_model.specs.Counts.{most_inputs, most_outputs, most_disturbances}
 use Rattle.plant_model.specs.declared.parts.PlantParts.{PlantParts}
 use Rattle.plant_model.specs.declared.parts.PlantFault.{PlantFault}
 use Rattle.plant_model.specs.declared.parts.PlantFault.TheVariants.{Counts, Negative, Box}
@@ -31,11 +33,13 @@ of_parts n p = record {
 -- 1 to 8 states, at most 4 inputs, 1 to 6 outputs, at most 8 disturbances
 abbrev pub has_counts : Plant → Bool
 has_counts p =
-    (nat_le 1 p.states && nat_le p.states 8) && (nat_le p.inputs 4 && ((nat_le 1 p.outputs && nat_le p.outputs 6) && nat_le p.disturbances 8))
+    (nat_le 1 p.states && nat_le p.states most_states)
+    && (nat_le p.inputs most_inputs && ((nat_le 1 p.outputs && nat_le p.outputs most_outputs) && nat_le p.disturbances most_disturbances))
 
 -- no noise of an output, no radius and no bound of a state is negative
 abbrev pub has_no_negative : Plant → Bool
-has_no_negative p = list_all is_not_negative (noises p) && (list_all is_not_negative p.radius && list_all is_not_negative p.state_max)
+has_no_negative p =
+    list_all is_not_negative (noises p) && (list_all is_not_negative p.radius && list_all is_not_negative p.state_max)
 
 -- the initial box leaves the range in state i
 abbrev pub leaves : Plant → ℕ → Bool

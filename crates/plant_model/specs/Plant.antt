@@ -5,7 +5,8 @@ use Rattle.set_rules.specs.Columns.{at, entry, tabulate}
 use Rattle.set_rules.specs.Image.{IsStep}
 use Rattle.set_rules.specs.Strip.{Reads}
 use Rattle.set_rules.specs.Zono.{range}
-use Rattle.set_rules.specs.Limits.{coef, input_limit}
+use Rattle.set_rules.specs.Limits.{coef, input_limit, most_states}
+use Rattle.plant_model.specs.Counts.{most_inputs, most_outputs, most_disturbances}
 use Rattle.fixed_mat.specs.declared.reading.Reading.{Reading}
 use Rattle.fixed_mat.specs.declared.reading.Reading.TheVariants.{Missing, Value}
 
@@ -52,11 +53,11 @@ noises p = take p.outputs p.noise
 -- the limits of a plant
 pub record IsPlant (p : Plant) : Type 0 where
   pub some_state : 1 ≤ p.states
-  pub few_states : p.states ≤ 8
-  pub few_inputs : p.inputs ≤ 4
+  pub few_states : p.states ≤ most_states
+  pub few_inputs : p.inputs ≤ most_inputs
   pub some_output : 1 ≤ p.outputs
-  pub few_outputs : p.outputs ≤ 6
-  pub few_disturbances : p.disturbances ≤ 8
+  pub few_outputs : p.outputs ≤ most_outputs
+  pub few_disturbances : p.disturbances ≤ most_disturbances
   pub a_small : AllWithinLimit coef p.a
   pub b_small : AllWithinLimit coef p.b
   pub c_small : AllWithinLimit coef p.c
@@ -94,6 +95,10 @@ known (Value v slack) = Some (record { value = v; slack = slack })
 pub record Sample : Type 0 where
   pub inputs : List ℤ
   pub readings : List Reading
+
+-- the row of these inputs and readings
+abbrev pub row_of : List ℤ → List Reading → Sample
+row_of inputs readings = record { inputs = inputs; readings = readings }
 
 -- the limits of a reading
 abbrev pub IsReading : Reading → Type 0
@@ -144,11 +149,15 @@ disturbances_at x k = slice_index_or x.disturbances k []
 -- x is a trajectory of the plant up to sample k: where it starts, how it moves, what is read, and its bounds
 pub record Obeys (p : Plant) (samples : List Sample) (k : ℕ) (x : Trajectory) : Type 0 where
   pub positive : 1 ≤ x.denominator
-  pub starts : (i : ℕ) → i < p.states → magnitude (at (states_at x 0) i -ℤ pos x.denominator *ℤ at p.centre i) ≤ℤ (pos x.denominator *ℤ at p.radius i)
-  pub moves : (j : ℕ) → j < k → IsStep p.states p.disturbances p.a (shift_of p (sample_at samples j).inputs) p.e x.denominator (states_at x j) (states_at x (j + 1)) (disturbances_at x j)
+  pub starts : (i : ℕ) → i < p.states →
+      magnitude (at (states_at x 0) i -ℤ pos x.denominator *ℤ at p.centre i) ≤ℤ (pos x.denominator *ℤ at p.radius i)
+  pub moves : (j : ℕ) → j < k → IsStep p.states p.disturbances p.a (shift_of p (sample_at samples j).inputs) p.e x.denominator
+      (states_at x j) (states_at x (j + 1)) (disturbances_at x j)
   pub reads : (j : ℕ) → j ≤ k → (o : ℕ) → o < p.outputs → IfSome (reading_at (sample_at samples j) o) (λ r.
-      Reads p.states (output_row p o) (through_of p (sample_at samples j).inputs o) x.denominator (states_at x j) r.value (at p.noise o +ℤ r.slack))
-  pub bounded : (j : ℕ) → j ≤ k → (i : ℕ) → i < p.states → magnitude (at (states_at x j) i) ≤ℤ (pos x.denominator *ℤ at p.state_max i)
+      Reads p.states (output_row p o) (through_of p (sample_at samples j).inputs o) x.denominator (states_at x j) r.value
+      (at p.noise o +ℤ r.slack))
+  pub bounded : (j : ℕ) → j ≤ k → (i : ℕ) → i < p.states →
+      magnitude (at (states_at x j) i) ≤ℤ (pos x.denominator *ℤ at p.state_max i)
 
 -- some trajectory explains the telemetry up to sample k
 abbrev pub Consistent : Plant → List Sample → ℕ → Type 0

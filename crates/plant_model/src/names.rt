@@ -2,6 +2,7 @@
 
 ghost use Rattle.std.specs.Prelude.{◌≡◌, ◌<◌, ◌≤◌, ◌==◌, [], ◌∷◌, ◌++◌, length, slice_index_or, bytes_eq};
 ghost use Rattle.std.specs.List.{list_any};
+ghost use Rattle.plant_model.specs.Counts.{most_names, most_name_bytes};
 
 use arrayvec::{ArrayString, ArrayVec};
 use std::marker::Model;
@@ -33,7 +34,7 @@ impl Names {
     /// How many names there are.
     pub fn len(&self) -> usize
         ensures value { result ≡ length self.now }
-        ensures few { result ≤ 6 }
+        ensures few { result ≤ most_names }
     {
         self.names.len()
     }
@@ -49,7 +50,7 @@ impl Names {
     pub fn at(&self, i: usize) -> &str
         requires { i < length self.now }
         ensures value { result.now ≡ slice_index_or self.now i [] }
-        ensures short { length result.now ≤ 64 }
+        ensures short { length result.now ≤ most_name_bytes }
     {
         let name = &self.names[i];
         name.as_str()
@@ -65,8 +66,8 @@ impl Names {
 
     /// Adds a name at the end.
     pub fn push(&mut self, name: &str)
-        requires room { length self.old < 6 }
-        requires short { length name.now ≤ 64 }
+        requires room { length self.old < most_names }
+        requires short { length name.now ≤ most_name_bytes }
         ensures { self.new ≡ self.old ++ name.now ∷ [] }
     {
         let mut text = ArrayString::new();

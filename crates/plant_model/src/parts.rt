@@ -2,12 +2,14 @@
 
 ghost use Rattle.std.specs.Prelude.{◌≡◌, ◌≤◌};
 ghost use Rattle.std.specs.List.{list_all};
+ghost use Rattle.plant_model.specs.Counts.{most_outputs};
 ghost use Rattle.plant_model.specs.Signs.{is_not_negative};
 
 use fixed_mat::{Coef, Mat, RANGE, Range};
 
 /// The fields of a plant of `N` states, in nano-units, before its limits are judged.
-/// Columns of `b` and `d` past the inputs, rows of `c`, `d` and `noise` past the outputs and columns of `e` past the disturbances are not read.
+/// Columns of `b` and `d` past the inputs, rows of `c`, `d` and `noise` past the outputs and columns of `e` past the disturbances
+/// are not read.
 #[derive(Drop)]
 pub struct PlantParts<const N: usize> {
     pub inputs: usize,
@@ -67,7 +69,7 @@ impl<const N: usize> PlantParts<N> {
 
     /// Whether no noise of an output, no radius and no bound of a state is negative.
     pub(crate) fn has_no_negative(&self) -> bool
-        requires { self.now.outputs ≤ 6 }
+        requires { self.now.outputs ≤ most_outputs }
         ensures { result ≡ has_no_negative (of_parts N self.now) }
     {
         are_not_negative(&self.noise.entries()[..self.outputs])
@@ -80,7 +82,8 @@ impl<const N: usize> PlantParts<N> {
         ensures { result ≡ first_leaving (of_parts N self.now) }
     {
         for i in 0..N {
-            if self.centre.at(i, 0).unsigned_abs() + self.radius.at(i, 0).unsigned_abs() > RANGE {
+            let reach = self.centre.at(i, 0).unsigned_abs() + self.radius.at(i, 0).unsigned_abs();
+            if u128::from(reach) > RANGE {
                 return Some(i);
             }
         }
@@ -88,7 +91,7 @@ impl<const N: usize> PlantParts<N> {
     }
 }
 
-fn are_not_negative(entries: &[i128]) -> bool
+fn are_not_negative(entries: &[i64]) -> bool
     ensures { result ≡ list_all is_not_negative entries.now }
 {
     entries.iter().all(|v| *v >= 0)

@@ -3,6 +3,7 @@
 ghost use Rattle.std.specs.Prelude.{◌≡◌, ◌<◌, ◌≤◌, ◌≤ℤ◌, pos, length, Result};
 ghost use Rattle.set_rules.specs.Columns.{at};
 ghost use Rattle.set_rules.specs.Zono.{range};
+ghost use Rattle.plant_model.specs.Counts.{most_inputs, most_outputs, most_disturbances};
 ghost use Rattle.plant_model.specs.Plant.{IsPlant, IsShaped, output_row};
 ghost use Rattle.plant_model.specs.Parts.{of_parts, judged};
 
@@ -59,7 +60,7 @@ impl<const N: usize> Plant<N> {
     /// How many inputs there are, at most 4.
     pub fn inputs(&self) -> usize
         ensures value { result ≡ self.now.inputs }
-        ensures few { result ≤ 4 }
+        ensures few { result ≤ most_inputs }
     {
         self.parts.inputs
     }
@@ -68,7 +69,7 @@ impl<const N: usize> Plant<N> {
     pub fn outputs(&self) -> usize
         ensures value { result ≡ self.now.outputs }
         ensures some { 1 ≤ result }
-        ensures few { result ≤ 6 }
+        ensures few { result ≤ most_outputs }
     {
         self.parts.outputs
     }
@@ -76,7 +77,7 @@ impl<const N: usize> Plant<N> {
     /// How many disturbances there are, at most 8.
     pub fn dists(&self) -> usize
         ensures value { result ≡ self.now.disturbances }
-        ensures few { result ≤ 8 }
+        ensures few { result ≤ most_disturbances }
     {
         self.parts.dists
     }
@@ -110,7 +111,7 @@ impl<const N: usize> Plant<N> {
         let c = &self.parts.c;
         let mut row = Mat::zero();
         for l in 0..N {
-            row.set(0, l, c.at(o, l)).unwrap();
+            row.set(0, l, i128::from(c.at(o, l))).unwrap();
         }
         row
     }
@@ -136,7 +137,7 @@ impl<const N: usize> Plant<N> {
         ensures low { pos 0 ≤ℤ result }
         ensures high { result ≤ℤ pos range }
     {
-        self.parts.noise.at(o, 0)
+        i128::from(self.parts.noise.at(o, 0))
     }
 
     /// The middle of the box in which the states begin.

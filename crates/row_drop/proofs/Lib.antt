@@ -1,3 +1,3 @@
 pub mod Shrinking
 pub mod Plain
-pub mod Squares
+pub mod Sizes

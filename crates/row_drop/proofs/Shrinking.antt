@@ -1,5 +1,5 @@
 -- Shrunk columns and rows, and the gain made of them.
-use Rattle.std.proofs.Common.{◌≡◌, ℕ, ◌+◌, ◌*◌, ◌/◌, ◌^◌, ◌<◌, ◌≤◌, ◌⊎◌, ⊎_elim, List, [], length, map, ℤ, pos, negsuc, suc, unsigned_abs, int_div, to_z, of_z, to_z-of_z, SFits, ◌+ℤ◌, ◌*ℤ◌, sym, ap, ◌∙◌, arith, le_refl, mul-le-mul}
+use Rattle.std.proofs.Common.{◌≡◌, ℕ, ◌+◌, ◌*◌, ◌/◌, ◌^◌, ◌<◌, ◌≤◌, ⊎_elim, List, [], length, map, ℤ, pos, negsuc, suc, unsigned_abs, int_div, to_z, of_z, to_z-of_z, SFits, ◌+ℤ◌, ◌*ℤ◌, sym, ap, ◌∙◌, arith, le_refl, mul-le-mul}
 use Rattle.std.proofs.lemmas.Nat.{pow_pos}
 use Rattle.std.proofs.lemmas.List.{get_or_past, get_or-map, length-map}
 use Rattle.std.proofs.lemmas.Int.{ints}
@@ -7,8 +7,9 @@ use Rattle.std.proofs.Math.Nat.{zero-div, div-le_self}
 use mir.Syntax.{w128}
 use lib.Ieee.Nearest.{div_mono}
 use Rattle.set_rules.specs.Sum.{total}
-use Rattle.set_rules.specs.Columns.{at, column_entry, tabulate}
+use Rattle.set_rules.specs.Columns.{at, column_entry}
 use Rattle.set_rules.specs.Gain.{shift_below, shrunk_value, shrunk_product, shrunk_square, gain_of, gain_at, gain_shift, gain}
+use Rattle.row_drop.specs.Rows.{Covers, row_square, shrunk_state_product, gains_from}
 use Rattle.set_rules.proofs.Sums.{total-more, total-same}
 use Rattle.set_rules.proofs.ShiftHolds.{shift-least}
 use Rattle.fixed_mat.proofs.Bits.{back}
@@ -58,12 +59,12 @@ module _ (z : ℕ) (a : List ℤ) where
   entry-shrunk : (t : ℕ) → t < length a → at shrink t ≡ shrunk_value z (at a t)
   entry-shrunk t h = get_or-map (shrunk_value z) a t (pos 0) (pos 0) h
 
-  pub square-shrunk : total (length shrink) (λ t. at shrink t *ℤ at shrink t) ≡ shrunk_square z a
+  pub square-shrunk : row_square shrink ≡ shrunk_square z a
   square-shrunk =
       ap (λ n. total n (λ t. at shrink t *ℤ at shrink t)) (length-map a (shrunk_value z))
       ∙ total-same (length a) (λ t. at shrink t *ℤ at shrink t) (λ t. shrunk_value z (at a t) *ℤ shrunk_value z (at a t)) (λ t h. (λ i. entry-shrunk t h i *ℤ entry-shrunk t h i))
 
-  module _ (g : List (List ℤ)) (long : (length a ≡ length g) ⊎ (length a ≡ length g + 1)) where
+  module _ (g : List (List ℤ)) (long : Covers a g) where
     abbrev term : ℕ → ℕ → ℤ
     term i t = shrunk_value z (column_entry g i t) *ℤ shrunk_value z (at a t)
 
@@ -79,10 +80,10 @@ module _ (z : ℕ) (a : List ℤ) where
         times : (v : ℤ) → pos 0 *ℤ v ≡ pos 0
         times v = omega (arith, ints)
 
-    reaches : length g ≤ length a
+    pub reaches : length g ≤ length a
     reaches = ⊎_elim (λ (e : length a ≡ length g). omega arith) (λ (e : length a ≡ length g + 1). omega arith) long
 
-    product-shrunk : (i : ℕ) → total (length g) (λ t. shrunk_value z (column_entry g i t) *ℤ at shrink t) ≡ shrunk_product z g a i
+    product-shrunk : (i : ℕ) → shrunk_state_product z g shrink i ≡ shrunk_product z g a i
     product-shrunk i =
         total-same (length g) (λ t. shrunk_value z (column_entry g i t) *ℤ at shrink t) (term i) (λ t h. ap (λ v. shrunk_value z (column_entry g i t) *ℤ v) (entry-shrunk t (let r = reaches in omega arith)))
         ∙ ⊎_elim (λ (e : length a ≡ length g). ap (λ n. total n (term i)) (sym e))
@@ -92,15 +93,13 @@ module _ (z : ℕ) (a : List ℤ) where
         dropped : (x y : ℤ) → y ≡ pos 0 → x +ℤ y ≡ x
         dropped x y e = omega (arith, ints)
 
-    pub gain-shrunk : (n : ℕ) → tabulate n (λ i. gain_of (total (length g) (λ t. shrunk_value z (column_entry g i t) *ℤ at shrink t)) (total (length shrink) (λ t. at shrink t *ℤ at shrink t))) ≡ gain_at n z g a
+    pub gain-shrunk : (n : ℕ) → gains_from n (shrunk_state_product z g shrink) (row_square shrink) ≡ gain_at n z g a
     unfolding gain_at
     gain-shrunk n = tabulate-same n _ _ (λ i _. (λ ι. gain_of (product-shrunk i ι) (square-shrunk ι)))
 
 -- the gain, where the row and the shift are those
-pub gain-is : (n z : ℕ) (a : List ℤ) (g : List (List ℤ)) (row gains : List ℤ) → (length a ≡ length g) ⊎ (length a ≡ length g + 1)
-    → row ≡ map (shrunk_value z) a → z ≡ gain_shift g a
-    → gains ≡ tabulate n (λ i. gain_of (total (length g) (λ t. shrunk_value z (column_entry g i t) *ℤ at row t)) (total (length row) (λ t. at row t *ℤ at row t)))
-    → gains ≡ gain n g a
+pub gain-is : (n z : ℕ) (a : List ℤ) (g : List (List ℤ)) (row gains : List ℤ) → Covers a g → row ≡ map (shrunk_value z) a → z ≡ gain_shift g a
+    → gains ≡ gains_from n (shrunk_state_product z g row) (row_square row) → gains ≡ gain n g a
 gain-is n z a g row gains long shrunk shift is =
-    is ∙ ap (λ r. tabulate n (λ i. gain_of (total (length g) (λ t. shrunk_value z (column_entry g i t) *ℤ at r t)) (total (length r) (λ t. at r t *ℤ at r t)))) shrunk
+    is ∙ ap (λ r. gains_from n (shrunk_state_product z g r) (row_square r)) shrunk
     ∙ gain-shrunk z a g long n ∙ ap (λ y. gain_at n y g a) shift

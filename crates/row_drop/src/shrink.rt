@@ -5,7 +5,8 @@ ghost use Rattle.std.specs.List.{All};
 ghost use Rattle.set_rules.specs.Reduce.{greatest};
 ghost use Rattle.set_rules.specs.Columns.{column_entry};
 ghost use Rattle.set_rules.specs.Gain.{shift_below, shrunk_value, greatest_entry, gain_shift};
-ghost use Rattle.row_drop.specs.Room.{room as room_of};
+ghost use Rattle.set_rules.specs.Zono.{range};
+ghost use Rattle.row_drop.specs.Room.{room as room_of, plain_limit};
 
 use arrayvec::ArrayVec;
 use fixed_mat::{Coefs, Cols};
@@ -23,21 +24,21 @@ pub fn all_within<const N: usize>(cols: &Cols<N>, limit: u64) -> bool
 }
 
 /// The bits that any entry of a column sets once it is raised by `limit`.
-fn raised_bits(column: &[i128], limit: u64) -> u64
+fn raised_bits(column: &[i64], limit: u64) -> u64
     requires limit { limit ≤ 2 ^ 39 }
-    requires within { All (λ z. unsigned_abs z ≤ 1_000_000_000_000_000_000) column.now }
+    requires within { All (λ z. unsigned_abs z ≤ range) column.now }
     ensures { result < 2 * limit → greatest column.now ≤ limit }
 {
     let mut bits = 0;
     for entry in column {
-        bits |= (*entry as i64 + limit as i64).cast_unsigned();
+        bits |= (*entry + limit as i64).cast_unsigned();
     }
     bits
 }
 
 /// Numbers up to this need no shrinking, and their products with a row of this sum fit 64 bits.
 pub fn room_for(sum: u64) -> u64
-    requires { sum < 2 ^ 40 }
+    requires { sum < plain_limit }
     ensures value { result ≡ room_of sum }
     ensures some { 1 ≤ result }
     ensures high { result ≤ 2 ^ 39 }
@@ -68,17 +69,17 @@ fn power_within(room: u64) -> u64
 pub fn shift_of<const N: usize>(cols: &Cols<N>, a: &Coefs) -> u32
     ensures value { result ≡ gain_shift cols.now a.now }
     ensures small { result ≤ 88 }
-    ensures columns { greatest_entry cols.now / 2 ^ result < 2 ^ 40 }
-    ensures row { greatest a.now / 2 ^ result < 2 ^ 40 }
+    ensures columns { greatest_entry cols.now / 2 ^ result < plain_limit }
+    ensures row { greatest a.now / 2 ^ result < plain_limit }
 {
     shift_below_limit(u128::from(greatest_in_cols(cols)).max(greatest_in_coefs(a)))
 }
 
 /// The least number of halvings that brings `size` below `2 ^ 40`.
 fn shift_below_limit(size: u128) -> u32
-    ensures value { result ≡ shift_below (2 ^ 40) size }
+    ensures value { result ≡ shift_below plain_limit size }
     ensures small { result ≤ 88 }
-    ensures below { size / 2 ^ result < 2 ^ 40 }
+    ensures below { size / 2 ^ result < plain_limit }
 {
     for halvings in 0..88 {
         if size >> halvings < 1_099_511_627_776 {
@@ -99,15 +100,13 @@ pub fn greatest_in_cols<const N: usize>(cols: &Cols<N>) -> u64
     most
 }
 
-/// The greatest magnitude in a column, whose entries fit 64 bits.
-fn greatest_in(column: &[i128]) -> u64
-    requires { All (λ z. unsigned_abs z ≤ 1_000_000_000_000_000_000) column.now }
+/// The greatest magnitude in a column.
+fn greatest_in(column: &[i64]) -> u64
     ensures { result ≡ greatest column.now }
 {
     let mut most = 0;
     for entry in column {
-        let size = (*entry as i64).unsigned_abs();
-        most = size.max(most);
+        most = entry.unsigned_abs().max(most);
     }
     most
 }
@@ -126,9 +125,9 @@ fn greatest_in_coefs(a: &Coefs) -> u128
 /// `v` with its magnitude halved so often, rounded towards zero.
 pub fn shrunk(v: i128, halvings: u32) -> i64
     requires shift { halvings ≤ 88 }
-    requires below { unsigned_abs v / 2 ^ halvings < 2 ^ 40 }
+    requires below { unsigned_abs v / 2 ^ halvings < plain_limit }
     ensures value { result ≡ shrunk_value halvings v }
-    ensures within { unsigned_abs result < 2 ^ 40 }
+    ensures within { unsigned_abs result < plain_limit }
 {
     if halvings == 0 {
         return v as i64;
@@ -140,9 +139,9 @@ pub fn shrunk(v: i128, halvings: u32) -> i64
 /// The coefficients, each shrunk.
 pub fn shrunk_row(a: &Coefs, halvings: u32) -> ArrayVec<i64, 128>
     requires shift { halvings ≤ 88 }
-    requires below { greatest a.now / 2 ^ halvings < 2 ^ 40 }
+    requires below { greatest a.now / 2 ^ halvings < plain_limit }
     ensures value { result.items ≡ map (shrunk_value halvings) a.now }
-    ensures small { All (λ x. unsigned_abs x < 2 ^ 40) result.items }
+    ensures small { All (λ x. unsigned_abs x < plain_limit) result.items }
 {
     let mut row = ArrayVec::new();
     for t in 0..a.len() {

@@ -2,7 +2,7 @@ use crate::{gain, gain_within};
 use fixed_mat::{Coefs, Cols};
 use std::test::Fail;
 
-const ONE: i128 = 1_000_000_000;
+const ONE: i64 = 1_000_000_000;
 
 /// A state within 1 unit, read with noise within 0.1 units.
 #[test]
@@ -10,7 +10,7 @@ fn a_reading_is_taken_almost_whole(rt: HostRuntime) -> Result<(), Fail> {
     let mut cols: Cols<1> = Cols::new();
     cols.push_diagonal(0, ONE);
     let mut a = Coefs::new();
-    a.push(ONE)?;
+    a.push(i128::from(ONE))?;
     a.push(100_000_000)?;
     assert!(rt; cols.len() == 1);
     assert!(rt; a.len() == 2);
@@ -26,7 +26,7 @@ fn a_prediction_takes_less(rt: HostRuntime) -> Result<(), Fail> {
         assert!(rt; cols.len() < 128);
         cols.push_diagonal(0, v);
         assert!(rt; a.len() < 128);
-        a.push(v)?;
+        a.push(i128::from(v))?;
     }
     assert!(rt; a.len() < 128);
     a.push(100_000_000)?;
@@ -55,7 +55,7 @@ fn a_gain_is_clipped(rt: HostRuntime) -> Result<(), Fail> {
     let mut cols: Cols<1> = Cols::new();
     cols.push_diagonal(0, -ONE * ONE);
     let mut a = Coefs::new();
-    a.push(ONE)?;
+    a.push(i128::from(ONE))?;
     assert!(rt; cols.len() == 1);
     assert!(rt; a.len() == 1);
     assert_eq!(rt; gain(&cols, &a).at(0, 0), -1_000_000_000_000);
@@ -72,10 +72,10 @@ fn wide_rows_are_taken_alike(rt: HostRuntime) -> Result<(), Fail> {
             assert!(rt; cols.len() < 128);
             cols.push_diagonal(0, v);
             assert!(rt; a.len() < 128);
-            a.push(v)?;
+            a.push(i128::from(v))?;
         }
         assert!(rt; a.len() < 128);
-        a.push(7 * ONE)?;
+        a.push(i128::from(7 * ONE))?;
         assert!(rt; cols.len() == 2);
         assert!(rt; a.len() == 3);
         assert_eq!(rt; gain(&cols, &a).at(0, 0), taken);
@@ -89,8 +89,8 @@ fn every_bound_gives_the_same_gain(rt: HostRuntime) -> Result<(), Fail> {
     let mut cols: Cols<1> = Cols::new();
     cols.push_diagonal(0, 2 * ONE);
     let mut a = Coefs::new();
-    a.push(3 * ONE)?;
-    a.push(-ONE)?;
+    a.push(i128::from(3 * ONE))?;
+    a.push(i128::from(-ONE))?;
     assert!(rt; cols.len() == 1);
     assert!(rt; a.len() == 2);
     assert_eq!(rt; gain_within(&cols, &a, 2_000_000_000).at(0, 0), 600_000_000);

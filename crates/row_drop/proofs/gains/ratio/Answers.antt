@@ -1,11 +1,11 @@
 use Rattle.std.proofs.Common.{◌≡◌, false, pos, nat_eq, unsigned_abs, if◌then◌else◌, sym, ap, ◌∙◌, SFits, to_z-of_z, ◌*ℤ◌, int_div, rules}
-use mir.Syntax.{w128}
+use mir.Syntax.{w64, w128}
 use Rattle.set_rules.specs.Gain.{clipped_gain}
 use Rattle.row_drop.proofs.gains.ratio.Goals as goal
 
 pub returns-clause-value : goal.returns-clause-value
 returns-clause-value c =
-    let fits : SFits w128 c.clipped.result = record { sfits = c.clipped.type_inv } in
+    let fits : SFits w64 c.clipped.result = record { sfits = c.clipped.type_inv } in
     let inner : SFits w128 c.quotient.result = record { sfits = c.quotient.type_inv } in
     let product : SFits w128 c.args.product = search rules in
     let square : SFits w128 c.args.square = search rules in

@@ -1,12 +1,10 @@
-use Rattle.std.proofs.Common.{◌≡◌, ◌≤◌, ◌*ℤ◌, length, unsigned_abs}
-use Rattle.std.specs.List.{All}
-use Rattle.set_rules.specs.Sum.{total}
-use Rattle.set_rules.specs.Columns.{at, column_entry, tabulate}
-use Rattle.set_rules.specs.Gain.{shrunk_value, gain_of}
+use Rattle.std.proofs.Common.{◌≡◌}
+use Rattle.row_drop.specs.Room.{AreClipped}
+use Rattle.row_drop.specs.Rows.{shrunk_state_product, gains_from}
 use Rattle.row_drop.proofs.gains.ratios.Given as goal
 
 abbrev pub invariant-loop-i : goal.invariant-loop-i
 invariant-loop-i g l = record {
-  value : l.gains.items ≡ tabulate l.i (λ i. gain_of (total (length l.cols) (λ t. shrunk_value l.halvings (column_entry l.cols i t) *ℤ at l.row t)) l.square);
-  within : All (λ z. unsigned_abs z ≤ 1_000_000_000_000) l.gains.items;
+  value : l.gains.items ≡ gains_from l.i (shrunk_state_product l.halvings l.cols l.row) l.square;
+  within : AreClipped l.gains.items;
 }

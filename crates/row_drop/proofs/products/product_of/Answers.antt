@@ -1,4 +1,4 @@
-use Rattle.std.proofs.Common.{get_or, pos, rules, arith, sym, ap, ◌∙◌, ◌+ℤ◌, ◌*ℤ◌, ◌^◌, SFits, to_z, to_z-of_z, unsigned_abs}
+use Rattle.std.proofs.Common.{◌≡◌, of_z, get_or, pos, rules, arith, sym, ap, ◌∙◌, ◌+ℤ◌, ◌*ℤ◌, ◌^◌, SFits, to_z, to_z-of_z, unsigned_abs}
 use Rattle.std.proofs.lemmas.Int.{ints}
 use mir.Syntax.{w64, w128}
 use Rattle.set_rules.specs.Columns.{at, column_entry}
@@ -7,15 +7,22 @@ use Rattle.set_rules.proofs.Sums.{total-zero}
 use Rattle.set_rules.proofs.Greatest.{greatest_entry-at}
 use Rattle.fixed_mat.proofs.Bits.{back, small_fits, sum_on, next_sum}
 use Rattle.row_drop.proofs.Shrinking.{shrinks}
+use Rattle.row_drop.proofs.products.product_of.Given.{Over}
 use Rattle.row_drop.proofs.products.product_of.Goals as goal
+use Rattle.row_drop.proofs.products.product_of.Goals.{After-from-entry}
 
 pub loop-t-init : goal.loop-t-init
 loop-t-init g c = record { value = sym (total-zero _); within = omega arith }
 
+entry_is : (g : Over) (c : After-from-entry g) → to_z w128 (of_z w128 c.from-entry.result) ≡ column_entry c.args.cols.now c.args.i c.loop-t.t
+entry_is g c =
+    let fits : SFits w64 c.at.result = record { sfits = c.at.type_inv } in
+    let whole : SFits w128 c.from-entry.result = record { sfits = c.from-entry.type_inv } in
+    to_z-of_z whole ∙ c.from-entry.ensures ∙ to_z-of_z fits ∙ c.at.ensures.value
+
 pub shrunk-requires-clause-below : goal.shrunk-requires-clause-below
 shrunk-requires-clause-below g c =
-    let fits : SFits w128 c.at.result = record { sfits = c.at.type_inv } in
-    let size = ap unsigned_abs (to_z-of_z fits ∙ c.at.ensures.value) in
+    let size = ap unsigned_abs (entry_is g (goal.at.shrunk-requires-clause-below g c).After-from-entry) in
     rw size (shrinks _ (greatest_entry c.args.cols.now) c.args.halvings (2 ^ 40) (greatest_entry-at c.args.cols.now c.args.i c.loop-t.t) c.requires.below)
 
 pub overflow_add-sum : goal.overflow_add-sum
@@ -28,10 +35,9 @@ overflow_add-sum g c =
 
 pub loop-t-preserved : goal.loop-t-preserved
 loop-t-preserved g c =
-    let at_fits : SFits w128 c.at.result = record { sfits = c.at.type_inv } in
     let shrunk_fits : SFits w64 c.shrunk.result = record { sfits = c.shrunk.type_inv } in
     let fits : SFits w64 (get_or c.args.row.now c.loop-t.t (pos 0)) = search rules in
-    let left = to_z-of_z shrunk_fits ∙ c.shrunk.ensures.value ∙ ap (shrunk_value c.args.halvings) (to_z-of_z at_fits ∙ c.at.ensures.value) in
+    let left = to_z-of_z shrunk_fits ∙ c.shrunk.ensures.value ∙ ap (shrunk_value c.args.halvings) (entry_is g (goal.at.loop-t-preserved g c).After-from-entry) in
     let value = c.times-sum.ensures.value ∙ (λ i. left i *ℤ to_z-of_z fits i) in
     let small = c.times-sum.ensures.within in
     let before = c.loop-t.invariant.within in
