@@ -7,8 +7,6 @@ use Rattle.observer_step.specs.Answers.{zonotope_observer}
 use Rattle.outside_io.specs.Causes.{Rose}
 use Rattle.outside_io.specs.Shelf.{ShelfState}
 use Rattle.outside_io.specs.Sink.{SinkState, Gains, GainsFront}
-use Rattle.outside_io.specs.declared.shelf.GetFault.{GetFault}
-use Rattle.outside_io.specs.declared.shelf.GetFault.TheVariants as get
 use Rattle.outside_io.specs.declared.sink.PutFault.{PutFault}
 use Rattle.outside_io.specs.declared.sink.PutFault.TheVariants as put
 use Rattle.report_text.specs.Line.{Line, lines_text}
@@ -67,11 +65,6 @@ pub record PutsLast (lines : List Line) (before : SinkState) (result : Result Do
   pub faults : IfErr result IsPutEnding
   pub write : HasWriteCause before result after
   pub later : before.faults ≤ after.faults
-
--- how a run ends where the telemetry could not be opened
-abbrev pub attach_ending : GetFault → RunFault
-attach_ending get.Failed = Read 1
-attach_ending get.Memory = Memory
 
 -- how a run ends where the telemetry gave no line
 abbrev pub ending_of : StreamFault → RunFault

@@ -12,25 +12,22 @@ ghost use Rattle.monitor_run.specs.Stream.{OnRows, ReadsOn};
 ghost use Rattle.monitor_run.specs.Files.{files_with, report_of, report_of_rows};
 ghost use Rattle.monitor_run.specs.Outcome.{OnFile, OnFiles, SaysOfModel, SaysOfFiles, PutsReport, PutsNothing};
 ghost use Rattle.monitor_run.specs.Outcome.{AreRead, AsksInOrder, IfRead, ReadFailed, ReadsFailed, HasWriteCause};
-ghost use Rattle.monitor_run.specs.Rows.{rows_lines, SaysOfRows, ReadsRows, EndsRun, PutsLast, attach_ending};
+ghost use Rattle.monitor_run.specs.Rows.{rows_lines, SaysOfRows, ReadsRows, EndsRun, PutsLast};
 ghost use Rattle.monitor_run.specs.Whole.{IsAskedAtMost};
 
 use crate::done::{Done, RunFault};
 use crate::lines::{put_end, put_head, put_sample};
 use crate::model::read_model;
-use crate::rows::{find_header, next_row};
-use crate::stream::Stream;
+use crate::rows::{SLOT, find_header, next_row};
+use crate::stream::{Stream, StreamFault};
 use model_bank::{Bank, SampleRec};
 use model_file::Bank0;
-use outside_io::{GetFault, Shelf, Sink};
+use outside_io::{Shelf, Sink};
 use std::alloc::Global;
 use telem_csv::Header;
 
 /// The longest telemetry, in bytes.
 pub const MOST_TELEMETRY: u64 = 16_777_216;
-
-/// The slot of the telemetry.
-const SLOT: usize = 1;
 
 /// Puts the report of a model file and a telemetry to `out`, each line as soon as its row is read. Slot 0 of the shelf reads the
 /// model file, slot 1 the telemetry.
@@ -77,7 +74,7 @@ fn monitor_models<F: Shelf, O: Sink>(
 {
     match shelf.attach(SLOT, telemetry) {
         Ok(()) => {}
-        Err(fault) => return Err(attach_ending(fault)),
+        Err(fault) => return Err(StreamFault::from(fault).into()),
     }
     let mut stream = Stream::new(MOST_TELEMETRY);
     let head = find_header(alloc, &mut stream, shelf, models.inputs(), models.outputs())?;
@@ -107,16 +104,6 @@ fn put_report<F: Shelf, O: Sink>(
     match Bank::begin(alloc, models) {
         Ok(mut bank) => put_rows(alloc, stream, shelf, head, &mut bank, out),
         Err(_) => Err(RunFault::Memory),
-    }
-}
-
-/// How a run ends where the telemetry could not be opened.
-fn attach_ending(fault: GetFault) -> RunFault
-    ensures { result ≡ attach_ending fault }
-{
-    match fault {
-        GetFault::Failed => RunFault::Read { slot: SLOT },
-        GetFault::Memory => RunFault::Memory,
     }
 }
 

@@ -16,6 +16,9 @@ use plant_model::{Names, Sample};
 use std::alloc::Global;
 use telem_csv::{Header, TelemFault, TelemWhy, read_row};
 
+/// The slot of the telemetry.
+pub const SLOT: usize = 1;
+
 /// The header of the telemetry, for columns of these names.
 pub fn find_header<F: Shelf>(
     alloc: Global,
@@ -39,7 +42,7 @@ pub fn find_header<F: Shelf>(
     ensures kept { ReadsOn 1 (F.state shelf.old) (F.state shelf.new) }
 {
     'lines: loop {
-        if !stream.next_line(shelf)? {
+        if !stream.next_line(shelf, SLOT)? {
             return Err(no_header());
         }
         match Header::read(alloc, stream.cutter.line(), inputs, outputs) {
@@ -84,7 +87,7 @@ pub fn next_row<F: Shelf>(
     ensures kept { ReadsOn 1 (F.state shelf.old) (F.state shelf.new) }
 {
     'lines: loop {
-        if !stream.next_line(shelf)? {
+        if !stream.next_line(shelf, SLOT)? {
             return Ok(None);
         }
         match read_row(alloc, head, stream.cutter.line()) {

@@ -9,12 +9,6 @@ ghost use Rattle.telem_csv.specs.Rows.{refused_at};
 use outside_io::{GetFault, Shelf};
 use telem_csv::{Fed, LineCutter, TelemFault, TelemWhy};
 
-/// The slot of the telemetry.
-const SLOT: usize = 1;
-
-/// How many bytes are read at a time.
-const PIECE: usize = 4096;
-
 /// Why no line came.
 #[derive(Clone, Copy)]
 pub enum StreamFault {
@@ -43,7 +37,9 @@ impl From<GetFault> for StreamFault {
 #[derive(Drop)]
 pub struct Stream {
     pub cutter: LineCutter,
+    /// What was read last: 4,096 bytes are read at a time.
     pub piece: [u8; 4096],
+    /// What is left of it goes from here to `end`.
     pub at: usize,
     pub end: usize,
     ghost within: { at ≤ end },
@@ -52,7 +48,8 @@ pub struct Stream {
 
 impl Stream {
     ghost use Rattle.monitor_run.specs.Left.{left_of};
-    ghost use Rattle.monitor_run.specs.Stream.{BothTold, GoesOn, OnUnread, TellsLine, TellsEnd, TellsRefusal, ReadsOn, HasReadCause};
+    ghost use Rattle.monitor_run.specs.Stream.{BothTold, GoesOn, OnUnread, ReadsOn, HasReadCause};
+    ghost use Rattle.monitor_run.specs.Stream.{TellsLine, TellsEnd, TellsRefusal};
 
     /// Before the first byte of a telemetry of at most `limit` bytes.
     pub fn new(limit: u64) -> Stream
@@ -68,24 +65,25 @@ impl Stream {
         }
     }
 
-    /// Goes on to the next line, and says whether there is one.
-    pub fn next_line<F: Shelf>(&mut self, shelf: &mut F) -> Result<bool, StreamFault>
-        requires attached { ((F.state shelf.old).slot 1).attached ≡ true }
+    /// Goes on to the next line of the stream in this slot, and says whether there is one.
+    pub fn next_line<F: Shelf>(&mut self, shelf: &mut F, slot: usize) -> Result<bool, StreamFault>
+        requires slot { slot < 3 }
+        requires attached { ((F.state shelf.old).slot slot).attached ≡ true }
         requires going { is_refusal self.old.cutter.last ≡ false }
         ensures line { IfOk result (λ b. b ≡ true
-            → OnUnread 1 self.old (F.state shelf.old) self.new (F.state shelf.new) (TellsLine self.old.cutter self.new.cutter)) }
+            → OnUnread slot self.old (F.state shelf.old) self.new (F.state shelf.new) (TellsLine self.old.cutter self.new.cutter)) }
         ensures cut { IfOk result (λ b. b ≡ true → self.new.cutter.last ≡ Fed.Line) }
         ensures fewer { IfOk result (λ b. b ≡ true → (current self.new.cutter).room < (current self.old.cutter).room) }
         ensures end { IfOk result (λ b. b ≡ false
-            → OnUnread 1 self.old (F.state shelf.old) self.new (F.state shelf.new) (λ u _. TellsEnd self.old.cutter u)) }
-        ensures at_end { IfOk result (λ b. b ≡ false → IsAtEnd ((F.state shelf.new).slot 1).rest) }
+            → OnUnread slot self.old (F.state shelf.old) self.new (F.state shelf.new) (λ u _. TellsEnd self.old.cutter u)) }
+        ensures at_end { IfOk result (λ b. b ≡ false → IsAtEnd ((F.state shelf.new).slot slot).rest) }
         ensures refused { IfErr result (λ e. (fault : TelemFault) → e ≡ StreamFault.Refused fault
-            → OnUnread 1 self.old (F.state shelf.old) self.new (F.state shelf.new) (λ u _. TellsRefusal self.old.cutter fault u)) }
-        ensures read { IfErr result (HasReadCause 1 (F.state shelf.old) (F.state shelf.new)) }
-        ensures kept { ReadsOn 1 (F.state shelf.old) (F.state shelf.new) }
+            → OnUnread slot self.old (F.state shelf.old) self.new (F.state shelf.new) (λ u _. TellsRefusal self.old.cutter fault u)) }
+        ensures read { IfErr result (HasReadCause slot (F.state shelf.old) (F.state shelf.new)) }
+        ensures kept { ReadsOn slot (F.state shelf.old) (F.state shelf.new) }
     {
         loop {
-            if !self.has_bytes(shelf)? {
+            if !self.has_bytes(shelf, slot)? {
                 return self.finish();
             }
             match self.feed() {
@@ -97,39 +95,41 @@ impl Stream {
     }
 
     /// Reads the next piece where nothing of the last one is left, and says whether there is something.
-    fn has_bytes<F: Shelf>(&mut self, shelf: &mut F) -> Result<bool, StreamFault>
-        requires { ((F.state shelf.old).slot 1).attached ≡ true }
+    fn has_bytes<F: Shelf>(&mut self, shelf: &mut F, slot: usize) -> Result<bool, StreamFault>
+        requires slot { slot < 3 }
+        requires attached { ((F.state shelf.old).slot slot).attached ≡ true }
         ensures cutter { self.new.cutter ≡ self.old.cutter }
-        ensures bytes { IfOk result (λ b. OnUnread 1 self.old (F.state shelf.old) self.new (F.state shelf.new) (λ u u'. u ≡ u')) }
+        ensures bytes { IfOk result (λ b. OnUnread slot self.old (F.state shelf.old) self.new (F.state shelf.new) (λ u u'. u ≡ u')) }
         ensures some { IfOk result (λ b. b ≡ true → 0 < length (left_of self.new)) }
         ensures none { IfOk result (λ b. b ≡ false
-            → OnUnread 1 self.old (F.state shelf.old) self.new (F.state shelf.new) (λ _ u. u ≡ [])) }
-        ensures at_end { IfOk result (λ b. b ≡ false → IsAtEnd ((F.state shelf.new).slot 1).rest) }
-        ensures read { IfErr result (HasReadCause 1 (F.state shelf.old) (F.state shelf.new)) }
+            → OnUnread slot self.old (F.state shelf.old) self.new (F.state shelf.new) (λ _ u. u ≡ [])) }
+        ensures at_end { IfOk result (λ b. b ≡ false → IsAtEnd ((F.state shelf.new).slot slot).rest) }
+        ensures read { IfErr result (HasReadCause slot (F.state shelf.old) (F.state shelf.new)) }
         ensures not_refused { IfErr result (λ e. (fault : TelemFault) → e ≢ StreamFault.Refused fault) }
-        ensures kept { ReadsOn 1 (F.state shelf.old) (F.state shelf.new) }
+        ensures kept { ReadsOn slot (F.state shelf.old) (F.state shelf.new) }
     {
         if self.at < self.end {
             return Ok(true);
         }
-        self.fill(shelf)
+        self.fill(shelf, slot)
     }
 
     /// Reads the next piece, and says whether the slot had more.
-    fn fill<F: Shelf>(&mut self, shelf: &mut F) -> Result<bool, StreamFault>
-        requires attached { ((F.state shelf.old).slot 1).attached ≡ true }
+    fn fill<F: Shelf>(&mut self, shelf: &mut F, slot: usize) -> Result<bool, StreamFault>
+        requires slot { slot < 3 }
+        requires attached { ((F.state shelf.old).slot slot).attached ≡ true }
         requires used { self.old.at ≡ self.old.end }
         ensures cutter { self.new.cutter ≡ self.old.cutter }
-        ensures bytes { IfOk result (λ b. BothTold ((F.state shelf.old).slot 1).rest ((F.state shelf.new).slot 1).rest
+        ensures bytes { IfOk result (λ b. BothTold ((F.state shelf.old).slot slot).rest ((F.state shelf.new).slot slot).rest
             (λ r r'. r ≡ left_of self.new ++ r')) }
         ensures some { IfOk result (λ b. b ≡ true → 0 < length (left_of self.new)) }
         ensures none { IfOk result (λ b. b ≡ false → left_of self.new ≡ []) }
-        ensures at_end { IfOk result (λ b. b ≡ false → IsAtEnd ((F.state shelf.new).slot 1).rest) }
-        ensures read { IfErr result (HasReadCause 1 (F.state shelf.old) (F.state shelf.new)) }
+        ensures at_end { IfOk result (λ b. b ≡ false → IsAtEnd ((F.state shelf.new).slot slot).rest) }
+        ensures read { IfErr result (HasReadCause slot (F.state shelf.old) (F.state shelf.new)) }
         ensures not_refused { IfErr result (λ e. (fault : TelemFault) → e ≢ StreamFault.Refused fault) }
-        ensures kept { ReadsOn 1 (F.state shelf.old) (F.state shelf.new) }
+        ensures kept { ReadsOn slot (F.state shelf.old) (F.state shelf.new) }
     {
-        let count = shelf.next(SLOT, &mut self.piece)?;
+        let count = shelf.next(slot, &mut self.piece)?;
         self.at = 0;
         self.end = count;
         Ok(count > 0)

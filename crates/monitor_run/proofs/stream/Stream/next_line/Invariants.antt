@@ -7,9 +7,9 @@ use Rattle.monitor_run.proofs.stream.Stream.next_line.Given as goal
 abbrev pub invariant-loop-self : goal.invariant-loop-self
 invariant-loop-self g l = record {
   going : is_refusal l.self.cutter.last ≡ false;
-  same : OnUnread 1 l.fn.self (g.F.Shelf.state l.fn.shelf) l.self (g.F.Shelf.state l.shelf) (TellsSame l.fn.self.cutter l.self.cutter);
+  same : OnUnread l.slot l.fn.self (g.F.Shelf.state l.fn.shelf) l.self (g.F.Shelf.state l.shelf) (TellsSame l.fn.self.cutter l.self.cutter);
   room : (current l.self.cutter).room ≡ (current l.fn.self.cutter).room;
-  kept : ReadsOn 1 (g.F.Shelf.state l.fn.shelf) (g.F.Shelf.state l.shelf);
+  kept : ReadsOn l.slot (g.F.Shelf.state l.fn.shelf) (g.F.Shelf.state l.shelf);
 }
 
 abbrev pub decreases-loop-self : goal.decreases-loop-self
