@@ -1,6 +1,5 @@
 //! A run from its two files to its report.
-ghost use Rattle.std.specs.Prelude.{◌≡◌, ◌<◌, ◌≤◌, ◌^◌, List, [], ◌∷◌, length, true, false, None, IfOk, IfErr, OnOk};
-ghost use Rattle.std.specs.Io.KnownBytes.{IsAtEnd};
+ghost use Rattle.std.specs.Prelude.{◌≡◌, ◌<◌, ◌≤◌, ◌^◌, List, [], ◌∷◌, length, true, false, None, Some, IfOk, OnOk};
 ghost use Rattle.outside_io.specs.Shelf.{IsFresh, KeepsOthers};
 ghost use Rattle.plant_model.specs.Plant.{Plant};
 ghost use Rattle.report_text.specs.Line.{end};
@@ -11,8 +10,8 @@ ghost use Rattle.model_bank.specs.Bank.{BankStands};
 ghost use Rattle.monitor_run.specs.Stream.{OnRows, ReadsOn};
 ghost use Rattle.monitor_run.specs.Files.{files_with, report_of, report_of_rows};
 ghost use Rattle.monitor_run.specs.Outcome.{OnFile, OnFiles, SaysOfModel, SaysOfFiles, PutsReport, PutsNothing};
-ghost use Rattle.monitor_run.specs.Outcome.{AreRead, AsksInOrder, IfRead, ReadFailed, ReadsFailed, HasWriteCause};
-ghost use Rattle.monitor_run.specs.Rows.{rows_lines, SaysOfRows, ReadsRows, EndsRun, PutsLast};
+ghost use Rattle.monitor_run.specs.Outcome.{AreRead, AsksInOrder, IfRead, ReadsFailed, HasWriteCause};
+ghost use Rattle.monitor_run.specs.Rows.{rows_lines, SaysOfRows, EndsRun, PutsLast};
 ghost use Rattle.monitor_run.specs.Whole.{IsAskedAtMost};
 
 use crate::done::{Done, RunFault};
@@ -65,11 +64,9 @@ fn monitor_models<F: Shelf, O: Sink>(
     ensures says { OnFile (F.state shelf.old) telemetry.now (λ t. SaysOfFiles result (files_with models t)) }
     ensures puts { OnFile (F.state shelf.old) telemetry.now
         (λ t. PutsReport (report_of (files_with models t)) (O.state out.old) result (O.state out.new)) }
-    ensures faults { IfErr result ReadsRows }
-    ensures read { IfRead result (λ slot. ReadFailed telemetry.now ((F.state shelf.old).slot 1) ((F.state shelf.new).slot 1)) }
-    ensures write { HasWriteCause (O.state out.old) result (O.state out.new) }
-    ensures at_end { OnOk result (IsAtEnd ((F.state shelf.new).slot 1).rest) }
+    ensures ends { EndsRun (F.state shelf.old) (F.state shelf.new) (O.state out.old) result (O.state out.new) }
     ensures asked { IsAskedAtMost telemetry.now ((F.state shelf.new).slot 1) }
+    ensures asked_unread { IfRead result (λ _. ((F.state shelf.new).slot 1).asked ≡ Some telemetry.now) }
     ensures others { KeepsOthers 1 (F.state shelf.old) (F.state shelf.new) }
 {
     match shelf.attach(SLOT, telemetry) {

@@ -6,7 +6,7 @@ use Rattle.monitor_run.proofs.reporting.monitor.Goals as goal
 pub returns-clause-says_model : goal.returns-clause-says_model
 returns-clause-says_model g c =
     let shelf = g.F.Shelf.state c.args.shelf.now in
-    accepted-says c.in_ok-models.models (shelf.file c.args.model.now) (shelf.file c.args.telemetry.now) c.in_ok-models.ensures.read_all c.monitor_models.result c.monitor_models.ensures.faults
+    accepted-says c.in_ok-models.models (shelf.file c.args.model.now) (shelf.file c.args.telemetry.now) c.in_ok-models.ensures.read_all c.monitor_models.result c.monitor_models.ensures.ends.faults
 
 pub returns-clause-says_files : goal.returns-clause-says_files
 returns-clause-says_files g c =
