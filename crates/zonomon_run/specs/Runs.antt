@@ -40,6 +40,14 @@ OnNamed words shelf claim = OnRun words (λ model telemetry. OnFiles shelf model
 abbrev pub report_text : Files → List ℕ
 report_text files = lines_text (report_of files)
 
+-- the output gained the report of files that say this
+abbrev pub GainsReport : SinkState → SinkState → Files → Type 0
+GainsReport before after files = Gains (report_text files) before after
+
+-- the output gained a front of the report of files that say this
+abbrev pub GainsReportFront : SinkState → SinkState → Files → Type 0
+GainsReportFront before after files = GainsFront (report_text files) before after
+
 -- no file is refused
 abbrev pub IsAccepted : Files → Type 0
 IsAccepted (bad_model fault) = ⊥
@@ -103,8 +111,8 @@ pub record Monitors (model telemetry : List ℕ) (before : Outside) (result : �
   pub asked_first : result ≡ 2 → (after.shelf.slot 1).asked ≡ None
   pub asked_no_third : (after.shelf.slot 2).asked ≡ None
   pub accepted : result ≡ 0 → OnFiles before.shelf model telemetry IsAccepted
-  pub report : (result ≡ 0) ⊎ (result ≡ 3) → OnFiles before.shelf model telemetry (λ f. Gains (report_text f) before.out after.out)
-  pub front : OnFiles before.shelf model telemetry (λ f. GainsFront (report_text f) before.out after.out)
+  pub report : (result ≡ 0) ⊎ (result ≡ 3) → OnFiles before.shelf model telemetry (GainsReport before.out after.out)
+  pub front : OnFiles before.shelf model telemetry (GainsReportFront before.out after.out)
   pub nothing : result ≡ 2 → after.out.held ≡ before.out.held
 
 -- what the word `help` does

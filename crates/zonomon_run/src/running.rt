@@ -2,11 +2,10 @@
 ghost use Rattle.std.specs.Prelude.{◌≡◌, ◌≢◌, ◌⊎◌, ◌↔◌, None};
 ghost use Rattle.outside_io.specs.Causes.{Rose};
 ghost use Rattle.outside_io.specs.Shelf.{IsFresh};
-ghost use Rattle.outside_io.specs.Sink.{Gains, GainsFront};
 ghost use Rattle.zonomon_run.specs.Words.{asked_by, texts, faulty, helps, later};
 ghost use Rattle.zonomon_run.specs.Ending.{TellsEnding};
-ghost use Rattle.zonomon_run.specs.Runs.{Helps, IsAccepted, IsStatus, Monitors, NamesNoFile, OnNamed, OnRun, outside, report_text};
-ghost use Rattle.zonomon_run.specs.Runs.{TrueHulls, TrueExclusions, TrueMisses};
+ghost use Rattle.zonomon_run.specs.Runs.{Helps, IsStatus, Monitors, NamesNoFile, OnNamed, OnRun, outside};
+ghost use Rattle.zonomon_run.specs.Runs.{IsAccepted, GainsReport, GainsReportFront, TrueHulls, TrueExclusions, TrueMisses};
 
 use crate::ending::{Ending, tell};
 use crate::files::run_files;
@@ -39,9 +38,8 @@ pub fn run<F: Shelf, O: Sink, E: Sink>(
     // What was put to `out`: the report at status 0; at 3 the report up to the refused row; at 4, 5 and 6 a front of it; and else nothing.
     ensures accepted { result ≡ 0 → OnNamed (texts words.now) (F.state shelf.old) IsAccepted }
     ensures report { (result ≡ 0) ⊎ (result ≡ 3)
-        → OnNamed (texts words.now) (F.state shelf.old) (λ f. Gains (report_text f) (O.state out.old) (O.state out.new)) }
-    ensures front { OnNamed (texts words.now) (F.state shelf.old)
-        (λ f. GainsFront (report_text f) (O.state out.old) (O.state out.new)) }
+        → OnNamed (texts words.now) (F.state shelf.old) (GainsReport (O.state out.old) (O.state out.new)) }
+    ensures front { OnNamed (texts words.now) (F.state shelf.old) (GainsReportFront (O.state out.old) (O.state out.new)) }
     ensures nothing { (result ≡ 1) ⊎ ((result ≡ 2) ⊎ (result ≡ 8)) → (O.state out.new).held ≡ (O.state out.old).held }
 
     // What the report's lines claim of the trajectories of the models.
