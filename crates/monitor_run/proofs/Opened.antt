@@ -1,7 +1,6 @@
 -- What the rows behind a header, and the bytes of both files, say of a run.
 use Rattle.std.proofs.Common.{◌≡◌, ℕ, List, [], ◌++◌, Option, Some, None, IfSome, Result, Ok, Err, IfErr, refl, sym, ap, ◌∙◌, subst, append_assoc}
-use Rattle.std.specs.Io.KnownBytes.{Appends}
-use Rattle.outside_io.specs.Sink.{AppendsFront}
+use Rattle.outside_io.specs.Sink.{SinkState, Gains, GainsFront}
 use Rattle.outside_io.proofs.Grows.{appends_more, appends_none}
 use Rattle.outside_io.proofs.Fronts.{front-after, front-before, no-front}
 use Rattle.telem_csv.specs.Cutter.{at_start, telemetry_owed}
@@ -20,7 +19,7 @@ use Rattle.monitor_run.specs.declared.stream.StreamFault.{StreamFault}
 use Rattle.monitor_run.specs.declared.stream.StreamFault.TheVariants as stream
 use Rattle.monitor_run.specs.Stream.{BothTold}
 use Rattle.monitor_run.specs.Files.{Files, bad_header, monitored, with_telemetry, files_with, with_models, files_of, model_refusal, report_of, report_of_rows, most_telemetry}
-use Rattle.monitor_run.specs.Outcome.{OnBytes, SaysOfModel, SaysOfFiles, Puts, PutsNothing}
+use Rattle.monitor_run.specs.Outcome.{OnBytes, SaysOfModel, SaysOfFiles, PutsReport, PutsNothing}
 use Rattle.monitor_run.specs.Rows.{rows_lines, SaysOfRows, ReadsRows, ending_of}
 use Rattle.monitor_run.specs.Judged.{JudgesModel, ReadsModel}
 use Rattle.monitor_run.proofs.Models.{accepted-is}
@@ -36,20 +35,20 @@ of-some (Some x) P f = f x
 
 -- ---- the head, and the rows behind it
 
-module _ (ms : Models) (held0 held held' : Option (List ℕ)) (put : Appends held0 held (lines_text (head_lines (names_in ms)))) where
+module _ (ms : Models) (held0 held held' : SinkState) (put : Gains (lines_text (head_lines (names_in ms))) held0 held) where
   abbrev head : List Line
   head = head_lines (names_in ms)
 
   whole : (rows : Rows) → lines_text (report_of_rows ms rows) ≡ lines_text head ++ lines_text (rows_lines (plants_in ms) rows)
   whole rows = ap lines_text (append_assoc head _ _) ∙ lines-append head (rows_lines (plants_in ms) rows)
 
-  report-all : (rows : Rows) → Appends held held' (lines_text (rows_lines (plants_in ms) rows)) → Appends held0 held' (lines_text (report_of_rows ms rows))
-  report-all rows h = appends_more held0 held held' _ _ _ put h (whole rows)
+  report-all : (rows : Rows) → Gains (lines_text (rows_lines (plants_in ms) rows)) held held' → Gains (lines_text (report_of_rows ms rows)) held0 held'
+  report-all rows h = appends_more held0.held held.held held'.held _ _ _ put h (whole rows)
 
-  report-front : (rows : Rows) → AppendsFront held held' (lines_text (rows_lines (plants_in ms) rows)) → AppendsFront held0 held' (lines_text (report_of_rows ms rows))
-  report-front rows h = subst (λ t. AppendsFront held0 held' t) (sym (whole rows)) (front-after held0 held held' (lines_text head) (lines_text (rows_lines (plants_in ms) rows)) put h)
+  report-front : (rows : Rows) → GainsFront (lines_text (rows_lines (plants_in ms) rows)) held held' → GainsFront (lines_text (report_of_rows ms rows)) held0 held'
+  report-front rows h = subst (λ t. GainsFront t held0 held') (sym (whole rows)) (front-after held0.held held.held held'.held (lines_text head) (lines_text (rows_lines (plants_in ms) rows)) put h)
 
-  pub behind-head : (r : Result Done RunFault) (rows : Rows) → IfErr r ReadsRows → Puts r held held' (rows_lines (plants_in ms) rows) → Puts r held0 held' (report_of_rows ms rows)
+  pub behind-head : (r : Result Done RunFault) (rows : Rows) → IfErr r ReadsRows → PutsReport (rows_lines (plants_in ms) rows) held r held' → PutsReport (report_of_rows ms rows) held0 r held'
   behind-head (Ok done) rows ending h = report-all rows h
   behind-head (Err (Model fault)) rows ending h = absurd ending
   behind-head (Err (Telemetry fault)) rows ending h = report-all rows h
@@ -58,11 +57,11 @@ module _ (ms : Models) (held0 held held' : Option (List ℕ)) (put : Appends hel
   behind-head (Err Memory) rows ending h = report-front rows h
 
 -- a front of the head, or all of it, is a front of the report
-pub head-front : (ms : Models) (held0 held : Option (List ℕ)) (rows : Rows) → AppendsFront held0 held (lines_text (head_lines (names_in ms))) → AppendsFront held0 held (lines_text (report_of_rows ms rows))
+pub head-front : (ms : Models) (held0 held : SinkState) (rows : Rows) → GainsFront (lines_text (head_lines (names_in ms))) held0 held → GainsFront (lines_text (report_of_rows ms rows)) held0 held
 head-front ms held0 held rows h =
     let head = head_lines (names_in ms) in
     let text : lines_text (report_of_rows ms rows) ≡ lines_text head ++ lines_text (rows_lines (plants_in ms) rows) = ap lines_text (append_assoc head _ _) ∙ lines-append head (rows_lines (plants_in ms) rows) in
-    subst (λ t. AppendsFront held0 held t) (sym text) (front-before held0 held (lines_text head) (lines_text (rows_lines (plants_in ms) rows)) h)
+    subst (λ t. GainsFront t held0 held) (sym text) (front-before held0.held held.held (lines_text head) (lines_text (rows_lines (plants_in ms) rows)) h)
 
 -- ---- the telemetry, from its first byte
 
@@ -112,13 +111,13 @@ module _ (ms : Models) (f : StreamFault) (e : RunFault) (is : e ≡ ending_of f)
       by stream.Read e = of-some file _ (λ t. tt)
       by stream.Memory e = of-some file _ (λ t. tt)
 
-  pub no-header-puts : (held : Option (List ℕ)) → IfSome file (λ t. Puts (Err e) held held (report_of (files_with ms t)))
-  no-header-puts held = subst (λ e. IfSome file (λ t. Puts (Err e) held held (report_of (files_with ms t)))) (sym is) (by f refl)
+  pub no-header-puts : (held : SinkState) → IfSome file (λ t. PutsReport (report_of (files_with ms t)) held (Err e) held)
+  no-header-puts held = subst (λ e. IfSome file (λ t. PutsReport (report_of (files_with ms t)) held (Err e) held)) (sym is) (by f refl)
     where
-      by : (g : StreamFault) → f ≡ g → IfSome file (λ t. Puts (Err (ending_of g)) held held (report_of (files_with ms t)))
-      by (stream.Refused fault) e = with-refusal ms (λ f. Puts (Err (Telemetry fault)) held held (report_of f)) file rest rest' opened fault (refused fault e) (appends_none held)
-      by stream.Read e = of-some file _ (λ t. no-front held (lines_text (report_of (files_with ms t))))
-      by stream.Memory e = of-some file _ (λ t. no-front held (lines_text (report_of (files_with ms t))))
+      by : (g : StreamFault) → f ≡ g → IfSome file (λ t. PutsReport (report_of (files_with ms t)) held (Err (ending_of g)) held)
+      by (stream.Refused fault) e = with-refusal ms (λ f. PutsReport (report_of f) held (Err (Telemetry fault)) held) file rest rest' opened fault (refused fault e) (appends_none held.held)
+      by stream.Read e = of-some file _ (λ t. no-front held.held (lines_text (report_of (files_with ms t))))
+      by stream.Memory e = of-some file _ (λ t. no-front held.held (lines_text (report_of (files_with ms t))))
 
 -- ---- both files
 
@@ -143,7 +142,7 @@ module _ (ms : Models) (model telemetry' : Option (List ℕ)) (read : IfSome mod
       by (Err Write) m ending h = h
       by (Err Memory) m ending h = tt
 
-  pub rows-nothing : (r : Result Done RunFault) (held held' : Option (List ℕ)) → IfErr r ReadsRows → PutsNothing r held held'
+  pub rows-nothing : (r : Result Done RunFault) (held held' : SinkState) → IfErr r ReadsRows → PutsNothing held r held'
   rows-nothing (Ok done) held held' ending = tt
   rows-nothing (Err (Model fault)) held held' ending = absurd ending
   rows-nothing (Err (Telemetry fault)) held held' ending = tt
@@ -173,15 +172,15 @@ module _ (e : RunFault) (ending : ReadsModel e) where
       by Write ending = absurd ending
       by Memory ending = tt
 
-  pub judged-puts : (held : Option (List ℕ)) (lines : List Line) → Puts (Err e) held held lines
+  pub judged-puts : (held : SinkState) (lines : List Line) → PutsReport lines held (Err e) held
   judged-puts held lines = by e ending
     where
-      by : (e : RunFault) → ReadsModel e → Puts (Err e) held held lines
+      by : (e : RunFault) → ReadsModel e → PutsReport lines held (Err e) held
       by (Model fault) ending = refl
       by (Telemetry fault) ending = absurd ending
-      by (Read slot) ending = no-front held (lines_text lines)
+      by (Read slot) ending = no-front held.held (lines_text lines)
       by Write ending = absurd ending
-      by Memory ending = no-front held (lines_text lines)
+      by Memory ending = no-front held.held (lines_text lines)
 
 pub on-both : (model telemetry' : Option (List ℕ)) (P : List ℕ → List ℕ → Type 0) → ((m t : List ℕ) → P m t) → OnBytes model telemetry' P
 on-both model telemetry' P f = of-some model _ (λ m. of-some telemetry' _ (λ t. f m t))

@@ -1,12 +1,14 @@
 -- Lines that are put one after another.
-use Rattle.std.proofs.Common.{◌≡◌, ℕ, ◌+◌, ◌<◌, List, [], ◌∷◌, ◌++◌, length, map, take, drop, get_or, flat_map, sym, ap, ◌∙◌, append-nil, arith, Option, Result, subst, OnErr}
+use Rattle.std.proofs.Common.{◌≡◌, ℕ, ◌+◌, ◌<◌, ◌≤◌, List, [], ◌∷◌, ◌++◌, length, map, take, drop, get_or, flat_map, sym, ap, ◌∙◌, append-nil, arith, Result, Ok, Err, subst}
 use Rattle.std.specs.List.{enumerate_from}
 use Rattle.std.proofs.lemmas.List.{take_more, take-append-drop, map-append, length-take-le}
 use Rattle.std.proofs.lemmas.Grind.{flat_map-append}
-use Rattle.std.specs.Io.KnownBytes.{Appends}
-use Rattle.outside_io.specs.Sink.{AppendsFront}
+use Rattle.outside_io.specs.Causes.{HasCause}
+use Rattle.outside_io.specs.Sink.{SinkState, Gains, GainsFront}
+use Rattle.outside_io.specs.declared.sink.PutFault.{PutFault}
 use Rattle.outside_io.proofs.Grows.{appends_more}
-use Rattle.outside_io.proofs.Fronts.{front-after, front-before, on-err}
+use Rattle.outside_io.proofs.Fronts.{front-after, front-before, on-ok, on-err}
+use Rattle.monitor_run.specs.Put.{PutsLines}
 use Rattle.report_text.specs.Line.{Line, put_text, lines_text}
 
 -- ---- numbered lists
@@ -56,23 +58,60 @@ module _ {A B : Type 0} (lines : B → List Line) (seen : A → B) where
 text-append : (xs ys zs : List Line) → zs ≡ xs ++ ys → lines_text zs ≡ lines_text xs ++ lines_text ys
 text-append xs ys zs e = ap lines_text e ∙ flat_map-append put_text xs ys
 
-module _ (a b c : Option (List ℕ)) (xs ys zs : List Line) (e : zs ≡ xs ++ ys) where
-  -- lines, and then others
-  pub more-put : Appends a b (lines_text xs) → Appends b c (lines_text ys) → Appends a c (lines_text zs)
-  more-put p q = appends_more a b c _ _ _ p q (text-append xs ys zs e)
+-- these lines were put, and no count fell
+pub record HasPut (lines : List Line) (before after : SinkState) : Type 0 where
+  pub gained : Gains (lines_text lines) before after
+  pub faults : before.faults ≤ after.faults
+  pub wants : before.wants ≤ after.wants
 
-  -- lines, and then a front of others
-  pub more-front : Appends a b (lines_text xs) → AppendsFront b c (lines_text ys) → AppendsFront a c (lines_text zs)
-  more-front p q = subst (λ t. AppendsFront a c t) (sym (text-append xs ys zs e)) (front-after a b c (lines_text xs) (lines_text ys) p q)
+-- a cause that came later
+later-cause : {T E : Type 0} {fault : E} {a b c : ℕ} {r : Result T E} → a ≤ b → HasCause fault b c r → HasCause fault a c r
+later-cause l h = record { later = omega arith; failed = λ e. omega (arith, h.failed e) }
+
+pub has-put : {a b : SinkState} {x : Unit} (xs : List Line) → PutsLines xs a (Ok x) b → HasPut xs a b
+has-put xs q = record { gained = q.whole; faults = q.failed.later; wants = q.memory.later }
+
+pub put-all : {a b : SinkState} (x : Unit) {xs : List Line} → HasPut xs a b → PutsLines xs a (Ok x) b
+put-all x p = record {
+  whole = p.gained;
+  front = tt;
+  failed = record { later = p.faults; failed = λ e. absurd cc };
+  memory = record { later = p.wants; failed = λ e. absurd cc };
+}
 
 -- a front of lines is one of those and others
-pub before-front : (a b : Option (List ℕ)) (xs ys zs : List Line) → zs ≡ xs ++ ys → AppendsFront a b (lines_text xs) → AppendsFront a b (lines_text zs)
-before-front a b xs ys zs e p = subst (λ t. AppendsFront a b t) (sym (text-append xs ys zs e)) (front-before a b (lines_text xs) (lines_text ys) p)
+pub cut-first : {a b : SinkState} {f : PutFault} (xs ys zs : List Line) → zs ≡ xs ++ ys → PutsLines xs a (Err f) b → PutsLines zs a (Err f) b
+cut-first {a} {b} xs ys zs e q = record {
+  whole = tt;
+  front = subst (λ t. GainsFront t a b) (sym (text-append xs ys zs e)) (front-before a.held b.held (lines_text xs) (lines_text ys) q.front);
+  failed = q.failed;
+  memory = q.memory;
+}
 
--- a front of the lines of one turn more is a front of the lines of all turns
-pub turn-front : (a b c : Option (List ℕ)) (xs ys zs rest all : List Line) → zs ≡ xs ++ ys → all ≡ zs ++ rest → Appends a b (lines_text xs) → AppendsFront b c (lines_text ys) → AppendsFront a c (lines_text all)
-turn-front a b c xs ys zs rest all e f p q = before-front a c zs rest all f (more-front a b c xs ys zs e p q)
+module _ {a b : SinkState} (xs ys zs : List Line) (e : zs ≡ xs ++ ys) (p : HasPut xs a b) where
+  all-of : (c : SinkState) → Gains (lines_text ys) b c → Gains (lines_text zs) a c
+  all-of c q = appends_more a.held b.held c.held _ _ _ p.gained q (text-append xs ys zs e)
 
--- the last call of several: its answer is that of all
-pub last-err : {A E : Type 0} (r : Result A E) (a b c : Option (List ℕ)) (xs ys zs : List Line) → zs ≡ xs ++ ys → Appends a b (lines_text xs) → OnErr r (AppendsFront b c (lines_text ys)) → OnErr r (AppendsFront a c (lines_text zs))
-last-err r a b c xs ys zs e p q = on-err r _ _ (more-front a b c xs ys zs e p) q
+  front-of : (c : SinkState) → GainsFront (lines_text ys) b c → GainsFront (lines_text zs) a c
+  front-of c q = subst (λ t. GainsFront t a c) (sym (text-append xs ys zs e)) (front-after a.held b.held c.held (lines_text xs) (lines_text ys) p.gained q)
+
+  -- lines, and then others
+  pub has-more : {c : SinkState} {x : Unit} → PutsLines ys b (Ok x) c → HasPut zs a c
+  has-more {c} q = record {
+    gained = all-of c q.whole;
+    faults = omega (arith, p.faults, q.failed.later);
+    wants = omega (arith, p.wants, q.memory.later);
+  }
+
+  -- the last call of several: its answer is that of all
+  pub puts-last : {c : SinkState} (r : Result Unit PutFault) → PutsLines ys b r c → PutsLines zs a r c
+  puts-last {c} r q = record {
+    whole = on-ok r _ _ (all-of c) q.whole;
+    front = on-err r _ _ (front-of c) q.front;
+    failed = later-cause p.faults q.failed;
+    memory = later-cause p.wants q.memory;
+  }
+
+  -- a front of the lines of one turn more is a front of the lines of all turns
+  pub cut-turn : {c : SinkState} {f : PutFault} (rest all : List Line) → all ≡ zs ++ rest → PutsLines ys b (Err f) c → PutsLines all a (Err f) c
+  cut-turn rest all g q = cut-first zs rest all g (puts-last (Err _) q)

@@ -127,12 +127,12 @@ told-then (Some x) (Some y) (Some z) P Q R f h k = f x y z h k
 
 -- a refusal that is told later was owed before
 module _ (a b c : Option (List ℕ)) (old mid : Cutter) (left left' : List ℕ) (fault : TelemFault) where
-  pub rows-refused : (head : Columns) → BothTold a b (λ r r'. rows_owed head old (left ++ r) ≡ rows_owed head mid (left' ++ r')) → BothTold b c (λ r r'. TellsRefusal mid (left' ++ r) fault)
+  pub rows-refused : (head : Columns) → BothTold a b (λ r r'. rows_owed head old (left ++ r) ≡ rows_owed head mid (left' ++ r')) → BothTold b c (λ r r'. TellsRefusal mid fault (left' ++ r))
       → BothTold a c (λ r r'. rows_owed head old (left ++ r) ≡ refused_rows fault)
-  rows-refused head h k = told-then a b c (λ r r'. rows_owed head old (left ++ r) ≡ rows_owed head mid (left' ++ r')) (λ r r'. TellsRefusal mid (left' ++ r) fault) (λ r r'. rows_owed head old (left ++ r) ≡ refused_rows fault)
-      (λ x y z p (q : TellsRefusal mid (left' ++ y) fault). p ∙ q.rows head) h k
+  rows-refused head h k = told-then a b c (λ r r'. rows_owed head old (left ++ r) ≡ rows_owed head mid (left' ++ r')) (λ r r'. TellsRefusal mid fault (left' ++ r)) (λ r r'. rows_owed head old (left ++ r) ≡ refused_rows fault)
+      (λ x y z p (q : TellsRefusal mid fault (left' ++ y)). p ∙ q.rows head) h k
 
-  pub header-refused : (inputs outputs : List (List ℕ)) → BothTold a b (λ r r'. telemetry_owed inputs outputs old (left ++ r) ≡ telemetry_owed inputs outputs mid (left' ++ r')) → BothTold b c (λ r r'. TellsRefusal mid (left' ++ r) fault)
+  pub header-refused : (inputs outputs : List (List ℕ)) → BothTold a b (λ r r'. telemetry_owed inputs outputs old (left ++ r) ≡ telemetry_owed inputs outputs mid (left' ++ r')) → BothTold b c (λ r r'. TellsRefusal mid fault (left' ++ r))
       → BothTold a c (λ r r'. telemetry_owed inputs outputs old (left ++ r) ≡ no_header fault)
-  header-refused inputs outputs h k = told-then a b c (λ r r'. telemetry_owed inputs outputs old (left ++ r) ≡ telemetry_owed inputs outputs mid (left' ++ r')) (λ r r'. TellsRefusal mid (left' ++ r) fault) (λ r r'. telemetry_owed inputs outputs old (left ++ r) ≡ no_header fault)
-      (λ x y z p (q : TellsRefusal mid (left' ++ y) fault). p ∙ q.header inputs outputs) h k
+  header-refused inputs outputs h k = told-then a b c (λ r r'. telemetry_owed inputs outputs old (left ++ r) ≡ telemetry_owed inputs outputs mid (left' ++ r')) (λ r r'. TellsRefusal mid fault (left' ++ r)) (λ r r'. telemetry_owed inputs outputs old (left ++ r) ≡ no_header fault)
+      (λ x y z p (q : TellsRefusal mid fault (left' ++ y)). p ∙ q.header inputs outputs) h k

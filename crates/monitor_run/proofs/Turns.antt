@@ -1,7 +1,6 @@
 -- The turns of a run over the rows of a telemetry.
 use Rattle.std.proofs.Common.{◌≡◌, ℕ, ◌+◌, zero, suc, List, [], ◌∷◌, ◌++◌, length, Option, Some, None, IfSome, Result, Ok, Err, IfOk, IfErr, OnOk, OnErr, refl, sym, ap, ◌∙◌, subst, arith, append_assoc, append-nil, length-append, is_none}
-use Rattle.std.specs.Io.KnownBytes.{Appends}
-use Rattle.outside_io.specs.Sink.{AppendsFront}
+use Rattle.outside_io.specs.Sink.{SinkState, Gains, GainsFront}
 use Rattle.outside_io.proofs.Grows.{appends_more, appends_none}
 use Rattle.outside_io.proofs.Fronts.{front-after, front-before, whole-front}
 use Rattle.plant_model.specs.Plant.{Plant, Sample}
@@ -25,14 +24,14 @@ use Rattle.monitor_run.specs.declared.done.RunFault.{RunFault}
 use Rattle.monitor_run.specs.declared.done.RunFault.TheVariants.{Model, Telemetry, Read, Write, Memory}
 use Rattle.monitor_run.specs.declared.stream.StreamFault.{StreamFault}
 use Rattle.monitor_run.specs.declared.stream.StreamFault.TheVariants as stream
-use Rattle.monitor_run.specs.Outcome.{Puts}
+use Rattle.monitor_run.specs.Outcome.{PutsReport}
 use Rattle.monitor_run.specs.Rows.{rows_lines, behind, SaysOfRows, IsPutEnding, ending_of, put_ending}
 
 -- after these samples: the bank stands for them, their lines were put, and the rest of the telemetry is what it owed less these samples
-pub record Monitored (head : Columns) (bank0 bank : Bank) (c0 c : Cutter) (left0 left : List ℕ) (rest0 rest held0 held : Option (List ℕ)) (taken : List Sample) : Type 0 where
+pub record Monitored (head : Columns) (bank0 bank : Bank) (c0 c : Cutter) (left0 left : List ℕ) (rest0 rest : Option (List ℕ)) (held0 held : SinkState) (taken : List Sample) : Type 0 where
   pub stands : (ps : List Plant) → BankStands ps [] bank0 → BankStands ps taken bank
   pub counts : bank.count ≡ length taken
-  pub puts : (ps : List Plant) → BankStands ps [] bank0 → Appends held0 held (lines_text (samples_lines zonotope_observer ps taken (length taken)))
+  pub puts : (ps : List Plant) → BankStands ps [] bank0 → Gains (lines_text (samples_lines zonotope_observer ps taken (length taken))) held0 held
   pub owes : BothTold rest0 rest (λ r r'. rows_owed head c0 (left0 ++ r) ≡ behind taken (rows_owed head c (left ++ r')))
 
 -- a claim on what was there, from what is told of it and of what is there now
@@ -71,26 +70,26 @@ rows-longer ps taken rows =
           ∙ ap (λ ls. ls ++ (more.0 ++ last)) (lines-same taken rows.samples ps (length taken) (omega arith)),
     )
 
-module _ {head : Columns} {bank0 bank : Bank} {c0 c : Cutter} {left0 left : List ℕ} {rest0 rest held0 held : Option (List ℕ)} {taken : List Sample}
+module _ {head : Columns} {bank0 bank : Bank} {c0 c : Cutter} {left0 left : List ℕ} {rest0 rest : Option (List ℕ)} {held0 held : SinkState} {taken : List Sample}
     (m : Monitored head bank0 bank c0 c left0 left rest0 rest held0 held taken) where
   module _ (ps : List Plant) (stands : BankStands ps [] bank0) where
     -- what was put, and a front of what comes next, is a front of the whole
-    cut-short : (rows : Rows) (held' : Option (List ℕ)) (more : List Line) (tail : List Line) → rows_lines ps rows ≡ samples_lines zonotope_observer ps taken (length taken) ++ (more ++ tail)
-        → AppendsFront held held' (lines_text more) → AppendsFront held0 held' (lines_text (rows_lines ps rows))
+    cut-short : (rows : Rows) (held' : SinkState) (more : List Line) (tail : List Line) → rows_lines ps rows ≡ samples_lines zonotope_observer ps taken (length taken) ++ (more ++ tail)
+        → GainsFront (lines_text more) held held' → GainsFront (lines_text (rows_lines ps rows)) held0 held'
     cut-short rows held' more tail is put =
         let so_far = samples_lines zonotope_observer ps taken (length taken) in
         let text : lines_text (rows_lines ps rows) ≡ (lines_text so_far ++ lines_text more) ++ lines_text tail =
         ap lines_text is ∙ lines-append so_far (more ++ tail) ∙ ap (λ t. lines_text so_far ++ t) (lines-append more tail) ∙ sym (append_assoc (lines_text so_far) (lines_text more) (lines_text tail)) in
-        subst (λ t. AppendsFront held0 held' t) (sym text)
-        (front-before held0 held' (lines_text so_far ++ lines_text more) (lines_text tail) (front-after held0 held held' (lines_text so_far) (lines_text more) (m.puts ps stands) put))
+        subst (λ t. GainsFront t held0 held') (sym text)
+        (front-before held0.held held'.held (lines_text so_far ++ lines_text more) (lines_text tail) (front-after held0.held held.held held'.held (lines_text so_far) (lines_text more) (m.puts ps stands) put))
 
     -- the lines put so far are a front of the whole
-    pub so-far : IfSome rest0 (λ r. AppendsFront held0 held (lines_text (rows_lines ps (rows_owed head c0 (left0 ++ r)))))
-    so-far = told-some rest0 rest (λ r r'. rows_owed head c0 (left0 ++ r) ≡ behind taken (rows_owed head c (left ++ r'))) (λ r. AppendsFront held0 held (lines_text (rows_lines ps (rows_owed head c0 (left0 ++ r)))))
+    pub so-far : IfSome rest0 (λ r. GainsFront (lines_text (rows_lines ps (rows_owed head c0 (left0 ++ r)))) held0 held)
+    so-far = told-some rest0 rest (λ r r'. rows_owed head c0 (left0 ++ r) ≡ behind taken (rows_owed head c (left ++ r'))) (λ r. GainsFront (lines_text (rows_lines ps (rows_owed head c0 (left0 ++ r)))) held0 held)
         (λ r r' e.
         let longer = rows-longer ps taken (rows_owed head c (left ++ r')) in
         let text = ap (λ rows. lines_text (rows_lines ps rows)) e ∙ ap lines_text longer.1 ∙ lines-append (samples_lines zonotope_observer ps taken (length taken)) longer.0 in
-        subst (λ t. AppendsFront held0 held t) (sym text) (whole-front held0 held (lines_text (samples_lines zonotope_observer ps taken (length taken))) (lines_text longer.0) (m.puts ps stands)))
+        subst (λ t. GainsFront t held0 held) (sym text) (whole-front held0.held held.held (lines_text (samples_lines zonotope_observer ps taken (length taken))) (lines_text longer.0) (m.puts ps stands)))
         m.owes
 
   module _ (c' : Cutter) (left' : List ℕ) (rest' : Option (List ℕ)) (s : Sample)
@@ -102,7 +101,7 @@ module _ {head : Columns} {bank0 bank : Bank} {c0 c : Cutter} {left0 left : List
         moved : (rows : Rows) → behind taken (with_sample s rows) ≡ behind (taken ++ s ∷ []) rows
         moved rows = ap (λ ss. let both : Rows = record { samples = ss; refusal = rows.refusal } in both) (sym (append_assoc taken (s ∷ []) rows.samples))
 
-    module _ (bank' : Bank) (answer : SampleAnswer) (held' : Option (List ℕ))
+    module _ (bank' : Bank) (answer : SampleAnswer) (held' : SinkState)
         (stands' : (ps : List Plant) (samples : List Sample) → BankStands ps samples bank → BankStands ps (samples ++ s ∷ []) bank')
         (answer-is : (ps : List Plant) (samples : List Sample) → BankStands ps samples bank → answer ≡ sample_answer zonotope_observer ps (samples ++ s ∷ []) (length samples)) where
       -- the lines of all samples, with those of this one
@@ -113,18 +112,18 @@ module _ {head : Columns} {bank0 bank : Bank} {c0 c : Cutter} {left0 left : List
           ∙ ap (λ a. samples_lines zonotope_observer ps taken (length taken) ++ sample_lines a) (sym (answer-is ps taken (m.stands ps stands)))
 
       -- one more sample was taken and its lines were put
-      pub one-more : bank'.count ≡ bank.count + 1 → Appends held held' (lines_text (sample_lines answer)) → Monitored head bank0 bank' c0 c' left0 left' rest0 rest' held0 held' (taken ++ s ∷ [])
+      pub one-more : bank'.count ≡ bank.count + 1 → Gains (lines_text (sample_lines answer)) held held' → Monitored head bank0 bank' c0 c' left0 left' rest0 rest' held0 held' (taken ++ s ∷ [])
       one-more count put = record {
         stands = λ ps stands. stands' ps taken (m.stands ps stands);
         counts = count ∙ ap (λ n. n + 1) m.counts ∙ sym (length-append taken (s ∷ []));
-        puts = λ ps stands. appends_more held0 held held' _ _ _ (m.puts ps stands) put (ap lines_text (more-lines ps stands) ∙ lines-append (samples_lines zonotope_observer ps taken (length taken)) (sample_lines answer));
+        puts = λ ps stands. appends_more held0.held held.held held'.held _ _ _ (m.puts ps stands) put (ap lines_text (more-lines ps stands) ∙ lines-append (samples_lines zonotope_observer ps taken (length taken)) (sample_lines answer));
         owes = owes-more;
       }
 
       -- a front of its lines was put
-      pub front-more : (ps : List Plant) → BankStands ps [] bank0 → AppendsFront held held' (lines_text (sample_lines answer))
-          → IfSome rest0 (λ r. AppendsFront held0 held' (lines_text (rows_lines ps (rows_owed head c0 (left0 ++ r)))))
-      front-more ps stands put = told-some rest0 rest' (λ r r'. rows_owed head c0 (left0 ++ r) ≡ behind (taken ++ s ∷ []) (rows_owed head c' (left' ++ r'))) (λ r. AppendsFront held0 held' (lines_text (rows_lines ps (rows_owed head c0 (left0 ++ r)))))
+      pub front-more : (ps : List Plant) → BankStands ps [] bank0 → GainsFront (lines_text (sample_lines answer)) held held'
+          → IfSome rest0 (λ r. GainsFront (lines_text (rows_lines ps (rows_owed head c0 (left0 ++ r)))) held0 held')
+      front-more ps stands put = told-some rest0 rest' (λ r r'. rows_owed head c0 (left0 ++ r) ≡ behind (taken ++ s ∷ []) (rows_owed head c' (left' ++ r'))) (λ r. GainsFront (lines_text (rows_lines ps (rows_owed head c0 (left0 ++ r)))) held0 held')
           (λ r r' e.
           let longer = rows-longer ps (taken ++ s ∷ []) (rows_owed head c' (left' ++ r')) in
           cut-short ps stands (rows_owed head c0 (left0 ++ r)) held' (sample_lines answer) longer.0
@@ -140,20 +139,20 @@ module _ {head : Columns} {bank0 bank : Bank} {c0 c : Cutter} {left0 left : List
     pub refused-says : IfSome rest0 (λ r. (rows_owed head c0 (left0 ++ r)).refusal ≡ Some fault)
     refused-says = told-some rest0 rest' (λ r r'. rows_owed head c0 (left0 ++ r) ≡ behind taken (refused_rows fault)) (λ r. (rows_owed head c0 (left0 ++ r)).refusal ≡ Some fault) (λ r r' e. ap (λ (rows : Rows). rows.refusal) e) refused-is
 
-    pub refused-puts : (ps : List Plant) → BankStands ps [] bank0 → IfSome rest0 (λ r. Appends held0 held (lines_text (rows_lines ps (rows_owed head c0 (left0 ++ r)))))
-    refused-puts ps stands = told-some rest0 rest' (λ r r'. rows_owed head c0 (left0 ++ r) ≡ behind taken (refused_rows fault)) (λ r. Appends held0 held (lines_text (rows_lines ps (rows_owed head c0 (left0 ++ r)))))
+    pub refused-puts : (ps : List Plant) → BankStands ps [] bank0 → IfSome rest0 (λ r. Gains (lines_text (rows_lines ps (rows_owed head c0 (left0 ++ r)))) held0 held)
+    refused-puts ps stands = told-some rest0 rest' (λ r r'. rows_owed head c0 (left0 ++ r) ≡ behind taken (refused_rows fault)) (λ r. Gains (lines_text (rows_lines ps (rows_owed head c0 (left0 ++ r)))) held0 held)
         (λ r r' e.
         let none = append-nil taken in
         let text : rows_lines ps (rows_owed head c0 (left0 ++ r)) ≡ samples_lines zonotope_observer ps taken (length taken) =
         ap (rows_lines ps) e ∙ append-nil (samples_lines zonotope_observer ps (taken ++ []) (length (taken ++ []))) ∙ ap (λ ss. samples_lines zonotope_observer ps ss (length ss)) none in
-        subst (λ ls. Appends held0 held (lines_text ls)) (sym text) (m.puts ps stands))
+        subst (λ ls. Gains (lines_text ls) held0 held) (sym text) (m.puts ps stands))
         refused-is
 
   -- the telemetry came to its end
-  module _ (rest' : Option (List ℕ)) (told : BothTold rest rest' (λ r r'. (rows_owed head c (left ++ r) ≡ no_rows) × (r' ≡ []))) where
+  module _ (rest' : Option (List ℕ)) (told : BothTold rest rest' (λ r r'. rows_owed head c (left ++ r) ≡ no_rows)) where
     all-is : BothTold rest0 rest' (λ r r'. rows_owed head c0 (left0 ++ r) ≡ behind taken no_rows)
-    all-is = told-then rest0 rest rest' (λ r r'. rows_owed head c0 (left0 ++ r) ≡ behind taken (rows_owed head c (left ++ r'))) (λ r r'. (rows_owed head c (left ++ r) ≡ no_rows) × (r' ≡ [])) (λ r r'. rows_owed head c0 (left0 ++ r) ≡ behind taken no_rows)
-        (λ x y z e f. e ∙ ap (behind taken) f.0) m.owes told
+    all-is = told-then rest0 rest rest' (λ r r'. rows_owed head c0 (left0 ++ r) ≡ behind taken (rows_owed head c (left ++ r'))) (λ r r'. rows_owed head c (left ++ r) ≡ no_rows) (λ r r'. rows_owed head c0 (left0 ++ r) ≡ behind taken no_rows)
+        (λ x y z e f. e ∙ ap (behind taken) f) m.owes told
 
     pub all-says : IfSome rest0 (λ r. ((rows_owed head c0 (left0 ++ r)).refusal ≡ None) × (bank.count ≡ length (rows_owed head c0 (left0 ++ r)).samples))
     all-says = told-some rest0 rest' (λ r r'. rows_owed head c0 (left0 ++ r) ≡ behind taken no_rows) (λ r. ((rows_owed head c0 (left0 ++ r)).refusal ≡ None) × (bank.count ≡ length (rows_owed head c0 (left0 ++ r)).samples))
@@ -162,34 +161,34 @@ module _ {head : Columns} {bank0 bank : Bank} {c0 c : Cutter} {left0 left : List
     all-lines : (ps : List Plant) (rows : Rows) → rows ≡ behind taken no_rows → rows_lines ps rows ≡ samples_lines zonotope_observer ps taken (length taken) ++ (end bank.count ∷ [])
     all-lines ps rows e = ap (rows_lines ps) e ∙ ap (λ ss. samples_lines zonotope_observer ps ss (length ss) ++ (end (length ss) ∷ [])) (append-nil taken) ∙ ap (λ n. samples_lines zonotope_observer ps taken (length taken) ++ (end n ∷ [])) (sym m.counts)
 
-    pub all-puts : (held' : Option (List ℕ)) (ps : List Plant) → BankStands ps [] bank0 → Appends held held' (lines_text (end bank.count ∷ [])) → IfSome rest0 (λ r. Appends held0 held' (lines_text (rows_lines ps (rows_owed head c0 (left0 ++ r)))))
-    all-puts held' ps stands put = told-some rest0 rest' (λ r r'. rows_owed head c0 (left0 ++ r) ≡ behind taken no_rows) (λ r. Appends held0 held' (lines_text (rows_lines ps (rows_owed head c0 (left0 ++ r)))))
-        (λ r r' e. appends_more held0 held held' _ _ _ (m.puts ps stands) put (ap lines_text (all-lines ps (rows_owed head c0 (left0 ++ r)) e) ∙ lines-append (samples_lines zonotope_observer ps taken (length taken)) (end bank.count ∷ []))) all-is
+    pub all-puts : (held' : SinkState) (ps : List Plant) → BankStands ps [] bank0 → Gains (lines_text (end bank.count ∷ [])) held held' → IfSome rest0 (λ r. Gains (lines_text (rows_lines ps (rows_owed head c0 (left0 ++ r)))) held0 held')
+    all-puts held' ps stands put = told-some rest0 rest' (λ r r'. rows_owed head c0 (left0 ++ r) ≡ behind taken no_rows) (λ r. Gains (lines_text (rows_lines ps (rows_owed head c0 (left0 ++ r)))) held0 held')
+        (λ r r' e. appends_more held0.held held.held held'.held _ _ _ (m.puts ps stands) put (ap lines_text (all-lines ps (rows_owed head c0 (left0 ++ r)) e) ∙ lines-append (samples_lines zonotope_observer ps taken (length taken)) (end bank.count ∷ []))) all-is
 
-    pub all-front : (held' : Option (List ℕ)) (ps : List Plant) → BankStands ps [] bank0 → AppendsFront held held' (lines_text (end bank.count ∷ [])) → IfSome rest0 (λ r. AppendsFront held0 held' (lines_text (rows_lines ps (rows_owed head c0 (left0 ++ r)))))
-    all-front held' ps stands put = told-some rest0 rest' (λ r r'. rows_owed head c0 (left0 ++ r) ≡ behind taken no_rows) (λ r. AppendsFront held0 held' (lines_text (rows_lines ps (rows_owed head c0 (left0 ++ r)))))
+    pub all-front : (held' : SinkState) (ps : List Plant) → BankStands ps [] bank0 → GainsFront (lines_text (end bank.count ∷ [])) held held' → IfSome rest0 (λ r. GainsFront (lines_text (rows_lines ps (rows_owed head c0 (left0 ++ r)))) held0 held')
+    all-front held' ps stands put = told-some rest0 rest' (λ r r'. rows_owed head c0 (left0 ++ r) ≡ behind taken no_rows) (λ r. GainsFront (lines_text (rows_lines ps (rows_owed head c0 (left0 ++ r)))) held0 held')
         (λ r r' e.
         let text : lines_text (rows_lines ps (rows_owed head c0 (left0 ++ r))) ≡ lines_text (samples_lines zonotope_observer ps taken (length taken)) ++ lines_text (end bank.count ∷ []) =
         ap lines_text (all-lines ps (rows_owed head c0 (left0 ++ r)) e) ∙ lines-append (samples_lines zonotope_observer ps taken (length taken)) (end bank.count ∷ []) in
-        subst (λ t. AppendsFront held0 held' t) (sym text) (front-after held0 held held' (lines_text (samples_lines zonotope_observer ps taken (length taken))) (lines_text (end bank.count ∷ [])) (m.puts ps stands) put)) all-is
+        subst (λ t. GainsFront t held0 held') (sym text) (front-after held0.held held.held held'.held (lines_text (samples_lines zonotope_observer ps taken (length taken))) (lines_text (end bank.count ∷ [])) (m.puts ps stands) put)) all-is
 
 -- before the first row nothing was put
-pub nothing-yet : (head : Columns) (bank : Bank) (c : Cutter) (left : List ℕ) (rest held : Option (List ℕ)) → bank.count ≡ 0 → Monitored head bank bank c c left left rest rest held held []
+pub nothing-yet : (head : Columns) (bank : Bank) (c : Cutter) (left : List ℕ) (rest : Option (List ℕ)) (held : SinkState) → bank.count ≡ 0 → Monitored head bank bank c c left left rest rest held held []
 unfolding samples_lines
 nothing-yet head bank c left rest held none = record {
   stands = λ ps h. h;
   counts = none;
-  puts = λ ps h. appends_none held;
+  puts = λ ps h. appends_none held.held;
   owes = told-same rest _ (λ r. refl);
 }
 
 -- ---- what an ending says and puts
 
-pub put-cut : (f : PutFault) (e : RunFault) → e ≡ put_ending f → (rest held held' : Option (List ℕ)) (lines : List ℕ → List Line) → IfSome rest (λ r. AppendsFront held held' (lines_text (lines r)))
-    → IfSome rest (λ r. Puts (Err e) held held' (lines r))
-put-cut f e is rest held held' lines h = subst (λ e. IfSome rest (λ r. Puts (Err e) held held' (lines r))) (sym is) (by f)
+pub put-cut : (f : PutFault) (e : RunFault) → e ≡ put_ending f → (rest : Option (List ℕ)) (held held' : SinkState) (lines : List ℕ → List Line) → IfSome rest (λ r. GainsFront (lines_text (lines r)) held held')
+    → IfSome rest (λ r. PutsReport (lines r) held (Err e) held')
+put-cut f e is rest held held' lines h = subst (λ e. IfSome rest (λ r. PutsReport (lines r) held (Err e) held')) (sym is) (by f)
   where
-    by : (f : PutFault) → IfSome rest (λ r. Puts (Err (put_ending f)) held held' (lines r))
+    by : (f : PutFault) → IfSome rest (λ r. PutsReport (lines r) held (Err (put_ending f)) held')
     by put.Failed = h
     by put.Memory = h
 
@@ -206,11 +205,11 @@ module _ (f : StreamFault) (e : RunFault) (is : e ≡ ending_of f) (rest : Optio
       by stream.Read e = nothing rest
       by stream.Memory e = nothing rest
 
-  pub telemetry-puts : (held held' : Option (List ℕ)) (lines : List ℕ → List Line) → ((fault : TelemFault) → f ≡ stream.Refused fault → IfSome rest (λ r. Appends held held' (lines_text (lines r))))
-      → IfSome rest (λ r. AppendsFront held held' (lines_text (lines r))) → IfSome rest (λ r. Puts (Err e) held held' (lines r))
-  telemetry-puts held held' lines refused front = subst (λ e. IfSome rest (λ r. Puts (Err e) held held' (lines r))) (sym is) (by f refl)
+  pub telemetry-puts : (held held' : SinkState) (lines : List ℕ → List Line) → ((fault : TelemFault) → f ≡ stream.Refused fault → IfSome rest (λ r. Gains (lines_text (lines r)) held held'))
+      → IfSome rest (λ r. GainsFront (lines_text (lines r)) held held') → IfSome rest (λ r. PutsReport (lines r) held (Err e) held')
+  telemetry-puts held held' lines refused front = subst (λ e. IfSome rest (λ r. PutsReport (lines r) held (Err e) held')) (sym is) (by f refl)
     where
-      by : (g : StreamFault) → f ≡ g → IfSome rest (λ r. Puts (Err (ending_of g)) held held' (lines r))
+      by : (g : StreamFault) → f ≡ g → IfSome rest (λ r. PutsReport (lines r) held (Err (ending_of g)) held')
       by (stream.Refused fault) e = refused fault e
       by stream.Read e = front
       by stream.Memory e = front
@@ -237,8 +236,8 @@ module _ (rest : Option (List ℕ)) where
       nothing None = tt
       nothing (Some r) = tt
 
-  pub last-puts : (r : Result Done RunFault) (held held' : Option (List ℕ)) (lines : List ℕ → List Line) → IfErr r IsPutEnding → OnOk r (IfSome rest (λ q. Appends held held' (lines_text (lines q)))) → OnErr r (IfSome rest (λ q. AppendsFront held held' (lines_text (lines q))))
-      → IfSome rest (λ q. Puts r held held' (lines q))
+  pub last-puts : (r : Result Done RunFault) (held held' : SinkState) (lines : List ℕ → List Line) → IfErr r IsPutEnding → OnOk r (IfSome rest (λ q. Gains (lines_text (lines q)) held held')) → OnErr r (IfSome rest (λ q. GainsFront (lines_text (lines q)) held held'))
+      → IfSome rest (λ q. PutsReport (lines q) held r held')
   last-puts (Ok done) held held' lines ending all front = all
   last-puts (Err (Model fault)) held held' lines ending all front = absurd ending
   last-puts (Err (Telemetry fault)) held held' lines ending all front = absurd ending

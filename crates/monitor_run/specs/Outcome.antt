@@ -1,17 +1,27 @@
 -- What the result of a run says of its files, and what it has put.
-use Rattle.std.specs.Prelude.{◌≡◌, ◌≢◌, ◌⊎◌, ℕ, List, length, Option, Some, None, IfSome, Result, Ok, Err}
-use Rattle.std.specs.Io.KnownBytes.{Appends}
+use Rattle.std.specs.Prelude.{◌≡◌, ◌≢◌, ◌⊎◌, ℕ, List, length, Option, Some, None, IfSome, Result, Ok, Err, OnOk}
+use Rattle.std.specs.Io.KnownBytes.{IsAtEnd}
 use Rattle.outside_io.specs.Causes.{Rose}
-use Rattle.outside_io.specs.Sink.{AppendsFront}
+use Rattle.outside_io.specs.Shelf.{SlotState, ShelfState}
+use Rattle.outside_io.specs.Sink.{SinkState, Gains, GainsFront}
 use Rattle.report_text.specs.Line.{Line, lines_text}
 use Rattle.monitor_run.specs.declared.done.Done.{Done}
 use Rattle.monitor_run.specs.declared.done.RunFault.{RunFault}
 use Rattle.monitor_run.specs.declared.done.RunFault.TheVariants.{Model, Telemetry, Read, Write, Memory}
-use Rattle.monitor_run.specs.Files.{Files, bad_model, bad_header, monitored, model_refusal, telemetry_refusal}
+use Rattle.monitor_run.specs.Files.{Files, bad_model, bad_header, monitored, files_of, model_refusal, telemetry_refusal}
+use Rattle.monitor_run.specs.Whole.{IsAskedAtMost}
 
 -- a claim on the bytes of a model file and a telemetry, where both are told
 abbrev pub OnBytes : Option (List ℕ) → Option (List ℕ) → (List ℕ → List ℕ → Type 0) → Type 0
 OnBytes model telemetry claim = IfSome model (λ m. IfSome telemetry (λ t. claim m t))
+
+-- a claim on the bytes of the file of this name, where the shelf tells them
+abbrev pub OnFile : ShelfState → List ℕ → (List ℕ → Type 0) → Type 0
+OnFile shelf name claim = IfSome (shelf.file name) claim
+
+-- a claim on what the model file and the telemetry of these names say, where the shelf tells them
+abbrev pub OnFiles : ShelfState → (model telemetry : List ℕ) → (Files → Type 0) → Type 0
+OnFiles shelf model telemetry claim = OnBytes (shelf.file model) (shelf.file telemetry) (λ m t. claim (files_of m t))
 
 -- no file is refused, and the telemetry has so many samples
 abbrev pub RunsThrough : Files → ℕ → Type 0
@@ -37,23 +47,23 @@ SaysOfFiles (Err (Read slot)) f = Unit
 SaysOfFiles (Err Write) f = Unit
 SaysOfFiles (Err Memory) f = Unit
 
--- known bytes grow by all these lines; where the run was cut short, by a front of them
-abbrev pub Puts : Result Done RunFault → Option (List ℕ) → Option (List ℕ) → List Line → Type 0
-Puts (Ok done) held held' lines = Appends held held' (lines_text lines)
-Puts (Err (Model fault)) held held' lines = held' ≡ held
-Puts (Err (Telemetry fault)) held held' lines = Appends held held' (lines_text lines)
-Puts (Err (Read slot)) held held' lines = AppendsFront held held' (lines_text lines)
-Puts (Err Write) held held' lines = AppendsFront held held' (lines_text lines)
-Puts (Err Memory) held held' lines = AppendsFront held held' (lines_text lines)
+-- the output gains all these lines; where the run was cut short, a front of them
+abbrev pub PutsReport : List Line → SinkState → Result Done RunFault → SinkState → Type 0
+PutsReport lines before (Ok done) after = Gains (lines_text lines) before after
+PutsReport lines before (Err (Model fault)) after = after.held ≡ before.held
+PutsReport lines before (Err (Telemetry fault)) after = Gains (lines_text lines) before after
+PutsReport lines before (Err (Read slot)) after = GainsFront (lines_text lines) before after
+PutsReport lines before (Err Write) after = GainsFront (lines_text lines) before after
+PutsReport lines before (Err Memory) after = GainsFront (lines_text lines) before after
 
 -- a run that ended at the model file has put nothing, whatever the files are
-abbrev pub PutsNothing : Result Done RunFault → Option (List ℕ) → Option (List ℕ) → Type 0
-PutsNothing (Ok done) held held' = Unit
-PutsNothing (Err (Model fault)) held held' = held' ≡ held
-PutsNothing (Err (Telemetry fault)) held held' = Unit
-PutsNothing (Err (Read slot)) held held' = slot ≡ 0 → held' ≡ held
-PutsNothing (Err Write) held held' = Unit
-PutsNothing (Err Memory) held held' = Unit
+abbrev pub PutsNothing : SinkState → Result Done RunFault → SinkState → Type 0
+PutsNothing before (Ok done) after = Unit
+PutsNothing before (Err (Model fault)) after = after.held ≡ before.held
+PutsNothing before (Err (Telemetry fault)) after = Unit
+PutsNothing before (Err (Read slot)) after = slot ≡ 0 → after.held ≡ before.held
+PutsNothing before (Err Write) after = Unit
+PutsNothing before (Err Memory) after = Unit
 
 -- where the model file is refused or can't be read, the telemetry was asked for no name
 abbrev pub AsksModelFirst : Result Done RunFault → Option (List ℕ) → Type 0
@@ -64,12 +74,32 @@ AsksModelFirst (Err (Read slot)) asked = slot ≡ 0 → asked ≡ None
 AsksModelFirst (Err Write) asked = Unit
 AsksModelFirst (Err Memory) asked = Unit
 
+-- each of slots 0 and 1 was asked for its own name at most, slot 0 first, and slot 2 for none
+pub record AsksInOrder (model telemetry : List ℕ) (result : Result Done RunFault) (shelf : ShelfState) : Type 0 where
+  pub first : AsksModelFirst result (shelf.slot 1).asked
+  pub asked_model : IsAskedAtMost model (shelf.slot 0)
+  pub asked_telemetry : IsAskedAtMost telemetry (shelf.slot 1)
+  pub no_third : (shelf.slot 2).asked ≡ None
+
+-- both files were read to their end
+pub record AreRead (shelf : ShelfState) : Type 0 where
+  pub model : IsAtEnd (shelf.slot 0).rest
+  pub telemetry : IsAtEnd (shelf.slot 1).rest
+
+-- a claim on the slot that could not be read
+abbrev pub IfRead : {A : Type 0} → Result A RunFault → (ℕ → Type 0) → Type 0
+IfRead result claim = (slot : ℕ) → result ≡ Err (Read slot) → claim slot
+
 -- reading a slot failed: its count of faults rose, and it was asked for this name
-pub record ReadFailed (before now : ℕ) (asked : Option (List ℕ)) (name : List ℕ) : Type 0 where
-  pub rose : Rose before now
-  pub was_asked : asked ≡ Some name
+pub record ReadFailed (name : List ℕ) (before after : SlotState) : Type 0 where
+  pub rose : Rose before.faults after.faults
+  pub was_asked : after.asked ≡ Some name
 
 -- the reading of the model file failed, or that of the telemetry
-abbrev pub ReadsFailed : (before now : ℕ → ℕ) → (asked : ℕ → Option (List ℕ)) → (model telemetry : List ℕ) → ℕ → Type 0
-ReadsFailed before now asked model telemetry slot =
-    ((slot ≡ 0) × ReadFailed (before 0) (now 0) (asked 0) model) ⊎ ((slot ≡ 1) × ReadFailed (before 1) (now 1) (asked 1) telemetry)
+abbrev pub ReadsFailed : (model telemetry : List ℕ) → (before after : ShelfState) → ℕ → Type 0
+ReadsFailed model telemetry before after slot =
+    ((slot ≡ 0) × ReadFailed model (before.slot 0) (after.slot 0)) ⊎ ((slot ≡ 1) × ReadFailed telemetry (before.slot 1) (after.slot 1))
+
+-- where the output could not be written, its count of faults rose
+abbrev pub HasWriteCause : {A : Type 0} → SinkState → Result A RunFault → SinkState → Type 0
+HasWriteCause before result after = result ≡ Err Write → Rose before.faults after.faults

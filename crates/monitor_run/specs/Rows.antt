@@ -1,17 +1,20 @@
 -- The rows of a telemetry, and what a run over them says and puts.
-use Rattle.std.specs.Prelude.{◌≡◌, List, ◌++◌, length, Some, None, is_none, Result, Ok, Err}
+use Rattle.std.specs.Prelude.{◌≡◌, List, ◌++◌, length, Some, None, is_none, Result, Ok, Err, IfErr, OnOk, OnErr, ◌≤◌}
+use Rattle.std.specs.Io.KnownBytes.{IsAtEnd}
 use Rattle.plant_model.specs.Plant.{Plant, Sample}
 use Rattle.telem_csv.specs.Rows.{Rows}
 use Rattle.observer_step.specs.Answers.{zonotope_observer}
-use Rattle.outside_io.specs.declared.shelf.GetFault.{GetFault}
-use Rattle.outside_io.specs.declared.shelf.GetFault.TheVariants as get
+use Rattle.outside_io.specs.Causes.{Rose}
+use Rattle.outside_io.specs.Shelf.{ShelfState}
+use Rattle.outside_io.specs.Sink.{SinkState, Gains, GainsFront}
 use Rattle.outside_io.specs.declared.sink.PutFault.{PutFault}
 use Rattle.outside_io.specs.declared.sink.PutFault.TheVariants as put
-use Rattle.report_text.specs.Line.{Line}
+use Rattle.report_text.specs.Line.{Line, lines_text}
 use Rattle.report_rules.specs.Lines.{samples_lines, last_lines}
 use Rattle.monitor_run.specs.declared.done.Done.{Done}
 use Rattle.monitor_run.specs.declared.done.RunFault.{RunFault}
 use Rattle.monitor_run.specs.declared.done.RunFault.TheVariants.{Model, Telemetry, Read, Write, Memory}
+use Rattle.monitor_run.specs.Outcome.{IfRead, HasWriteCause}
 use Rattle.monitor_run.specs.declared.stream.StreamFault.{StreamFault}
 use Rattle.monitor_run.specs.declared.stream.StreamFault.TheVariants as stream
 
@@ -40,6 +43,13 @@ ReadsRows (Read slot) = slot ≡ 1
 ReadsRows Write = Unit
 ReadsRows Memory = Unit
 
+-- why a run over the telemetry ended: the count of what failed rose, or slot 1 came to its end
+pub record EndsRun (shelf shelf' : ShelfState) (out : SinkState) (result : Result Done RunFault) (out' : SinkState) : Type 0 where
+  pub faults : IfErr result ReadsRows
+  pub read : IfRead result (λ slot. Rose (shelf.slot 1).faults (shelf'.slot 1).faults)
+  pub write : HasWriteCause out result out'
+  pub at_end : OnOk result (IsAtEnd (shelf'.slot 1).rest)
+
 -- an ending of putting the report
 abbrev pub IsPutEnding : RunFault → Type 0
 IsPutEnding (Model fault) = ⊥
@@ -48,10 +58,13 @@ IsPutEnding (Read slot) = ⊥
 IsPutEnding Write = Unit
 IsPutEnding Memory = Unit
 
--- how a run ends where the telemetry could not be opened
-abbrev pub attach_ending : GetFault → RunFault
-attach_ending get.Failed = Read 1
-attach_ending get.Memory = Memory
+-- the last lines of a report were put, or a front of them with a cause
+pub record PutsLast (lines : List Line) (before : SinkState) (result : Result Done RunFault) (after : SinkState) : Type 0 where
+  pub whole : OnOk result (Gains (lines_text lines) before after)
+  pub front : OnErr result (GainsFront (lines_text lines) before after)
+  pub faults : IfErr result IsPutEnding
+  pub write : HasWriteCause before result after
+  pub later : before.faults ≤ after.faults
 
 -- how a run ends where the telemetry gave no line
 abbrev pub ending_of : StreamFault → RunFault

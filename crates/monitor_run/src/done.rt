@@ -1,6 +1,9 @@
 //! How a run ends.
+ghost use Rattle.std.specs.Prelude.{◌≡◌};
 
+use crate::stream::StreamFault;
 use model_file::ModelFault;
+use outside_io::PutFault;
 use telem_csv::TelemFault;
 use thiserror::Error;
 
@@ -29,4 +32,31 @@ pub enum RunFault {
     /// Memory ran out.
     #[error("out of memory")]
     Memory,
+}
+
+impl From<StreamFault> for RunFault {
+    ghost use Rattle.monitor_run.specs.Rows.{ending_of};
+
+    ghost from_gives = { λ fault ending. ending ≡ ending_of fault };
+
+    fn from(fault: StreamFault) -> RunFault {
+        match fault {
+            StreamFault::Refused(fault) => RunFault::Telemetry(fault),
+            StreamFault::Read => RunFault::Read { slot: 1 },
+            StreamFault::Memory => RunFault::Memory,
+        }
+    }
+}
+
+impl From<PutFault> for RunFault {
+    ghost use Rattle.monitor_run.specs.Rows.{put_ending};
+
+    ghost from_gives = { λ fault ending. ending ≡ put_ending fault };
+
+    fn from(fault: PutFault) -> RunFault {
+        match fault {
+            PutFault::Failed => RunFault::Write,
+            PutFault::Memory => RunFault::Memory,
+        }
+    }
 }

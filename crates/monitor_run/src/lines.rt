@@ -1,17 +1,15 @@
 //! Puts the lines of a report, one by one.
-ghost use Rattle.std.specs.Prelude.{◌≡◌, ◌≤◌, true, [], ◌∷◌, length, map, flat_map, not, OnOk, OnErr};
+ghost use Rattle.std.specs.Prelude.{◌≡◌, ◌≤◌, true, [], ◌∷◌, length, map, flat_map, not};
 ghost use Rattle.std.specs.List.{list_all};
-ghost use Rattle.std.specs.Io.KnownBytes.{Appends};
-ghost use Rattle.outside_io.specs.Causes.{HasCause};
-ghost use Rattle.outside_io.specs.Sink.{AppendsFront};
 ghost use Rattle.farkas_check.specs.Certificate.{certificate_of};
 ghost use Rattle.isolate_core.specs.Verdict.{possible_models};
 ghost use Rattle.observer_step.specs.Seen.{is_printable_interval, was_widened};
 ghost use Rattle.model_bank.specs.Bank.{names_in};
 ghost use Rattle.model_bank.specs.Seen.{model_seen, sample_seen};
-ghost use Rattle.report_text.specs.Line.{lines_text, has_printable_ends, model, pred, exclude, hull, status, possible, verdict, end};
+ghost use Rattle.report_text.specs.Line.{has_printable_ends, model, pred, exclude, hull, status, possible, verdict, end};
 ghost use Rattle.report_text.specs.Seen.{line_of};
-ghost use Rattle.report_rules.specs.Lines.{head_lines, sample_lines, model_lines, pred_lines, hull_lines, outcome_lines};
+ghost use Rattle.report_rules.specs.Lines.{head_lines, sample_lines, model_lines, pred_lines, hull_lines};
+ghost use Rattle.monitor_run.specs.Put.{PutsLines, model_outcome};
 
 use arrayvec::{ArrayString, ArrayVec};
 use farkas_check::Cert;
@@ -23,10 +21,7 @@ use report_text::{RepLine, write_line};
 
 /// Puts the title and the names of the models, or on a fault a front of them.
 pub fn put_head<O: Sink>(out: &mut O, models: &Bank0) -> Result<(), PutFault>
-    ensures ok { OnOk result (Appends (O.held out.old) (O.held out.new) (lines_text (head_lines (names_in models.now)))) }
-    ensures err { OnErr result (AppendsFront (O.held out.old) (O.held out.new) (lines_text (head_lines (names_in models.now)))) }
-    ensures failed { HasCause PutFault.Failed (O.faults out.old) (O.faults out.new) result }
-    ensures memory { HasCause PutFault.Memory (O.wants out.old) (O.wants out.new) result }
+    ensures { PutsLines (head_lines (names_in models.now)) (O.state out.old) result (O.state out.new) }
 {
     put_line(out, &RepLine::Title)?;
     for i in 0..models.count() {
@@ -37,10 +32,7 @@ pub fn put_head<O: Sink>(out: &mut O, models: &Bank0) -> Result<(), PutFault>
 
 /// Puts the lines of a sample, or on a fault a front of them.
 pub fn put_sample<O: Sink>(out: &mut O, rec: &SampleRec) -> Result<(), PutFault>
-    ensures ok { OnOk result (Appends (O.held out.old) (O.held out.new) (lines_text (sample_lines (sample_seen rec.now)))) }
-    ensures err { OnErr result (AppendsFront (O.held out.old) (O.held out.new) (lines_text (sample_lines (sample_seen rec.now)))) }
-    ensures failed { HasCause PutFault.Failed (O.faults out.old) (O.faults out.new) result }
-    ensures memory { HasCause PutFault.Memory (O.wants out.old) (O.wants out.new) result }
+    ensures { PutsLines (sample_lines (sample_seen rec.now)) (O.state out.old) result (O.state out.new) }
 {
     put_line(out, &RepLine::Sample { k: rec.k })?;
     put_models(out, &rec.models)?;
@@ -49,10 +41,7 @@ pub fn put_sample<O: Sink>(out: &mut O, rec: &SampleRec) -> Result<(), PutFault>
 
 /// Puts the last line, the number of samples, or on a fault a front of it.
 pub fn put_end<O: Sink>(out: &mut O, samples: u64) -> Result<(), PutFault>
-    ensures ok { OnOk result (Appends (O.held out.old) (O.held out.new) (lines_text (end samples ∷ []))) }
-    ensures err { OnErr result (AppendsFront (O.held out.old) (O.held out.new) (lines_text (end samples ∷ []))) }
-    ensures failed { HasCause PutFault.Failed (O.faults out.old) (O.faults out.new) result }
-    ensures memory { HasCause PutFault.Memory (O.wants out.old) (O.wants out.new) result }
+    ensures { PutsLines (end samples ∷ []) (O.state out.old) result (O.state out.new) }
 {
     put_line(out, &RepLine::End { samples })
 }
@@ -60,10 +49,7 @@ pub fn put_end<O: Sink>(out: &mut O, samples: u64) -> Result<(), PutFault>
 /// Puts a line with its line feed.
 fn put_line<O: Sink>(out: &mut O, rep: &RepLine) -> Result<(), PutFault>
     requires { has_printable_ends (line_of rep.now) ≡ true }
-    ensures ok { OnOk result (Appends (O.held out.old) (O.held out.new) (lines_text (line_of rep.now ∷ []))) }
-    ensures err { OnErr result (AppendsFront (O.held out.old) (O.held out.new) (lines_text (line_of rep.now ∷ []))) }
-    ensures failed { HasCause PutFault.Failed (O.faults out.old) (O.faults out.new) result }
-    ensures memory { HasCause PutFault.Memory (O.wants out.old) (O.wants out.new) result }
+    ensures { PutsLines (line_of rep.now ∷ []) (O.state out.old) result (O.state out.new) }
 {
     let mut line = write_line(rep);
     line.push(b'\n');
@@ -73,10 +59,7 @@ fn put_line<O: Sink>(out: &mut O, rep: &RepLine) -> Result<(), PutFault>
 /// Puts the name of a model.
 fn put_name<O: Sink>(out: &mut O, index: u32, name: &str) -> Result<(), PutFault>
     requires { length name.now ≤ 32 }
-    ensures ok { OnOk result (Appends (O.held out.old) (O.held out.new) (lines_text (model index name.now ∷ []))) }
-    ensures err { OnErr result (AppendsFront (O.held out.old) (O.held out.new) (lines_text (model index name.now ∷ []))) }
-    ensures failed { HasCause PutFault.Failed (O.faults out.old) (O.faults out.new) result }
-    ensures memory { HasCause PutFault.Memory (O.wants out.old) (O.wants out.new) result }
+    ensures { PutsLines (model index name.now ∷ []) (O.state out.old) result (O.state out.new) }
 {
     let mut own = ArrayString::new();
     own.push_str(name);
@@ -85,10 +68,7 @@ fn put_name<O: Sink>(out: &mut O, index: u32, name: &str) -> Result<(), PutFault
 
 /// Puts the lines of models that were live before a sample.
 fn put_models<O: Sink>(out: &mut O, models: &[ModelRec]) -> Result<(), PutFault>
-    ensures ok { OnOk result (Appends (O.held out.old) (O.held out.new) (lines_text (flat_map model_lines (map model_seen models.now)))) }
-    ensures err { OnErr result (AppendsFront (O.held out.old) (O.held out.new) (lines_text (flat_map model_lines (map model_seen models.now)))) }
-    ensures failed { HasCause PutFault.Failed (O.faults out.old) (O.faults out.new) result }
-    ensures memory { HasCause PutFault.Memory (O.wants out.old) (O.wants out.new) result }
+    ensures { PutsLines (flat_map model_lines (map model_seen models.now)) (O.state out.old) result (O.state out.new) }
 {
     for model in models {
         put_model(out, model)?;
@@ -98,10 +78,7 @@ fn put_models<O: Sink>(out: &mut O, models: &[ModelRec]) -> Result<(), PutFault>
 
 /// Puts the lines of a model.
 fn put_model<O: Sink>(out: &mut O, rec: &ModelRec) -> Result<(), PutFault>
-    ensures ok { OnOk result (Appends (O.held out.old) (O.held out.new) (lines_text (model_lines (model_seen rec.now)))) }
-    ensures err { OnErr result (AppendsFront (O.held out.old) (O.held out.new) (lines_text (model_lines (model_seen rec.now)))) }
-    ensures failed { HasCause PutFault.Failed (O.faults out.old) (O.faults out.new) result }
-    ensures memory { HasCause PutFault.Memory (O.wants out.old) (O.wants out.new) result }
+    ensures { PutsLines (model_lines (model_seen rec.now)) (O.state out.old) result (O.state out.new) }
 {
     put_preds(out, rec.index, &rec.preds)?;
     put_outcome(out, rec)
@@ -111,10 +88,7 @@ fn put_model<O: Sink>(out: &mut O, rec: &ModelRec) -> Result<(), PutFault>
 fn put_preds<O: Sink>(out: &mut O, index: u32, preds: &[(i128, i128)]) -> Result<(), PutFault>
     requires few { length preds.now ≤ 6 }
     requires printable { list_all is_printable_interval preds.now ≡ true }
-    ensures ok { OnOk result (Appends (O.held out.old) (O.held out.new) (lines_text (pred_lines index preds.now))) }
-    ensures err { OnErr result (AppendsFront (O.held out.old) (O.held out.new) (lines_text (pred_lines index preds.now))) }
-    ensures failed { HasCause PutFault.Failed (O.faults out.old) (O.faults out.new) result }
-    ensures memory { HasCause PutFault.Memory (O.wants out.old) (O.wants out.new) result }
+    ensures { PutsLines (pred_lines index preds.now) (O.state out.old) result (O.state out.new) }
 {
     for (o, ends) in preds.iter().enumerate() {
         put_pred(out, index, o as u32, *ends)?;
@@ -130,10 +104,7 @@ fn put_pred<O: Sink>(
     ends: (i128, i128),
 ) -> Result<(), PutFault>
     requires { is_printable_interval ends ≡ true }
-    ensures ok { OnOk result (Appends (O.held out.old) (O.held out.new) (lines_text (pred model output ends.0 ends.1 ∷ []))) }
-    ensures err { OnErr result (AppendsFront (O.held out.old) (O.held out.new) (lines_text (pred model output ends.0 ends.1 ∷ []))) }
-    ensures failed { HasCause PutFault.Failed (O.faults out.old) (O.faults out.new) result }
-    ensures memory { HasCause PutFault.Memory (O.wants out.old) (O.wants out.new) result }
+    ensures { PutsLines (pred model output ends.0 ends.1 ∷ []) (O.state out.old) result (O.state out.new) }
 {
     let line = RepLine::Pred {
         model,
@@ -146,10 +117,7 @@ fn put_pred<O: Sink>(
 
 /// Puts what a sample says of a model.
 fn put_outcome<O: Sink>(out: &mut O, rec: &ModelRec) -> Result<(), PutFault>
-    ensures ok { OnOk result (Appends (O.held out.old) (O.held out.new) (lines_text (let m = model_seen rec.now in outcome_lines m.index m.answer.certificate m.answer.hulls m.answer.is_widened))) }
-    ensures err { OnErr result (AppendsFront (O.held out.old) (O.held out.new) (lines_text (let m = model_seen rec.now in outcome_lines m.index m.answer.certificate m.answer.hulls m.answer.is_widened))) }
-    ensures failed { HasCause PutFault.Failed (O.faults out.old) (O.faults out.new) result }
-    ensures memory { HasCause PutFault.Memory (O.wants out.old) (O.wants out.new) result }
+    ensures { PutsLines (model_outcome (model_seen rec.now)) (O.state out.old) result (O.state out.new) }
 {
     match rec.outcome {
         Outcome::Excluded(cert) => put_exclusion(out, rec.index, cert),
@@ -162,10 +130,7 @@ fn put_outcome<O: Sink>(out: &mut O, rec: &ModelRec) -> Result<(), PutFault>
 
 /// Puts that a model is excluded.
 fn put_exclusion<O: Sink>(out: &mut O, model: u32, cert: Cert) -> Result<(), PutFault>
-    ensures ok { OnOk result (Appends (O.held out.old) (O.held out.new) (lines_text (exclude model (certificate_of cert) ∷ []))) }
-    ensures err { OnErr result (AppendsFront (O.held out.old) (O.held out.new) (lines_text (exclude model (certificate_of cert) ∷ []))) }
-    ensures failed { HasCause PutFault.Failed (O.faults out.old) (O.faults out.new) result }
-    ensures memory { HasCause PutFault.Memory (O.wants out.old) (O.wants out.new) result }
+    ensures { PutsLines (exclude model (certificate_of cert) ∷ []) (O.state out.old) result (O.state out.new) }
 {
     put_line(out, &RepLine::Exclude { model, cert })
 }
@@ -174,10 +139,7 @@ fn put_exclusion<O: Sink>(out: &mut O, model: u32, cert: Cert) -> Result<(), Put
 fn put_hulls<O: Sink>(out: &mut O, index: u32, hulls: &[(i128, i128)]) -> Result<(), PutFault>
     requires few { length hulls.now ≤ 8 }
     requires printable { list_all is_printable_interval hulls.now ≡ true }
-    ensures ok { OnOk result (Appends (O.held out.old) (O.held out.new) (lines_text (hull_lines index hulls.now))) }
-    ensures err { OnErr result (AppendsFront (O.held out.old) (O.held out.new) (lines_text (hull_lines index hulls.now))) }
-    ensures failed { HasCause PutFault.Failed (O.faults out.old) (O.faults out.new) result }
-    ensures memory { HasCause PutFault.Memory (O.wants out.old) (O.wants out.new) result }
+    ensures { PutsLines (hull_lines index hulls.now) (O.state out.old) result (O.state out.new) }
 {
     for (x, ends) in hulls.iter().enumerate() {
         put_hull(out, index, x as u32, *ends)?;
@@ -193,10 +155,7 @@ fn put_hull<O: Sink>(
     ends: (i128, i128),
 ) -> Result<(), PutFault>
     requires { is_printable_interval ends ≡ true }
-    ensures ok { OnOk result (Appends (O.held out.old) (O.held out.new) (lines_text (hull model state ends.0 ends.1 ∷ []))) }
-    ensures err { OnErr result (AppendsFront (O.held out.old) (O.held out.new) (lines_text (hull model state ends.0 ends.1 ∷ []))) }
-    ensures failed { HasCause PutFault.Failed (O.faults out.old) (O.faults out.new) result }
-    ensures memory { HasCause PutFault.Memory (O.wants out.old) (O.wants out.new) result }
+    ensures { PutsLines (hull model state ends.0 ends.1 ∷ []) (O.state out.old) result (O.state out.new) }
 {
     let line = RepLine::Hull {
         model,
@@ -209,10 +168,7 @@ fn put_hull<O: Sink>(
 
 /// Puts whether a model that stays fits.
 fn put_status<O: Sink>(out: &mut O, rec: &ModelRec) -> Result<(), PutFault>
-    ensures ok { OnOk result (Appends (O.held out.old) (O.held out.new) (lines_text (status rec.now.index (not (was_widened rec.now.kept)) ∷ []))) }
-    ensures err { OnErr result (AppendsFront (O.held out.old) (O.held out.new) (lines_text (status rec.now.index (not (was_widened rec.now.kept)) ∷ []))) }
-    ensures failed { HasCause PutFault.Failed (O.faults out.old) (O.faults out.new) result }
-    ensures memory { HasCause PutFault.Memory (O.wants out.old) (O.wants out.new) result }
+    ensures { PutsLines (status rec.now.index (not (was_widened rec.now.kept)) ∷ []) (O.state out.old) result (O.state out.new) }
 {
     let line = RepLine::Status {
         model: rec.index,
@@ -223,10 +179,8 @@ fn put_status<O: Sink>(out: &mut O, rec: &ModelRec) -> Result<(), PutFault>
 
 /// Puts the models that are still possible, and the verdict on them.
 fn put_closing<O: Sink>(out: &mut O, rec: &SampleRec) -> Result<(), PutFault>
-    ensures ok { OnOk result (Appends (O.held out.old) (O.held out.new) (lines_text (possible (possible_models rec.now.possible.items) ∷ verdict rec.now.verdict ∷ []))) }
-    ensures err { OnErr result (AppendsFront (O.held out.old) (O.held out.new) (lines_text (possible (possible_models rec.now.possible.items) ∷ verdict rec.now.verdict ∷ []))) }
-    ensures failed { HasCause PutFault.Failed (O.faults out.old) (O.faults out.new) result }
-    ensures memory { HasCause PutFault.Memory (O.wants out.old) (O.wants out.new) result }
+    ensures { PutsLines (possible (possible_models rec.now.possible.items) ∷ verdict rec.now.verdict ∷ [])
+        (O.state out.old) result (O.state out.new) }
 {
     let line = RepLine::Possible {
         models: possible_indices(&rec.possible),

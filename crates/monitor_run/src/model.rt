@@ -1,11 +1,10 @@
 //! The model file of a run, read and judged.
-ghost use Rattle.std.specs.Prelude.{◌≡◌, ◌≢◌, ℕ, ◌≤◌, List, Some, None, Ok, Err, IfOk, IfErr, OnOk, IfSome};
+ghost use Rattle.std.specs.Prelude.{◌≡◌, ◌≢◌, ℕ, ◌≤◌, None, Ok, Err, IfOk, IfErr, OnOk};
 ghost use Rattle.std.specs.Io.KnownBytes.{IsAtEnd};
 ghost use Rattle.outside_io.specs.Shelf.{KeepsOthers};
 ghost use Rattle.model_file.specs.ModelFile.{models_of};
-ghost use Rattle.monitor_run.specs.Files.{model_refusal};
 ghost use Rattle.monitor_run.specs.Judged.{is_memory, JudgesModel, ReadsModel};
-ghost use Rattle.monitor_run.specs.Outcome.{ReadFailed};
+ghost use Rattle.monitor_run.specs.Outcome.{IfRead, OnFile, ReadFailed};
 ghost use Rattle.monitor_run.specs.Whole.{IsAskedAtMost};
 
 use crate::done::RunFault;
@@ -22,16 +21,15 @@ const SLOT: usize = 0;
 
 /// The models of the model file, in slot 0.
 pub fn read_model<F: Shelf>(alloc: Global, shelf: &mut F, model: &str) -> Result<Bank0, RunFault>
-    requires fresh { F.asked shelf.old 0 ≡ None }
-    ensures read_all { IfOk result (λ bank. IfSome (F.file shelf.old model.now) (λ m. models_of m ≡ Ok bank)) }
-    ensures says { IfErr result (λ e. IfSome (F.file shelf.old model.now) (JudgesModel e)) }
+    requires fresh { ((F.state shelf.old).slot 0).asked ≡ None }
+    ensures read_all { IfOk result (λ bank. OnFile (F.state shelf.old) model.now (λ m. models_of m ≡ Ok bank)) }
+    ensures says { IfErr result (λ e. OnFile (F.state shelf.old) model.now (JudgesModel e)) }
     ensures faults { IfErr result ReadsModel }
-    ensures read { (slot : ℕ) → result ≡ Err (RunFault.Read slot) → ReadFailed (F.faults shelf.old 0) (F.faults shelf.new 0) (F.asked shelf.new 0) model.now }
-    ensures at_end { OnOk result (IsAtEnd (F.rest shelf.new 0)) }
-    ensures asked { IsAskedAtMost (F.asked shelf.new 0) model.now }
-    ensures files { (n : List ℕ) → F.file shelf.new n ≡ F.file shelf.old n }
-    ensures others { KeepsOthers 0 (F.attached shelf.old) (F.attached shelf.new) (F.asked shelf.old) (F.asked shelf.new) (F.rest shelf.old) (F.rest shelf.new) (F.faults shelf.old) (F.faults shelf.new) }
-    ensures later { F.faults shelf.old 0 ≤ F.faults shelf.new 0 }
+    ensures read { IfRead result (λ slot. ReadFailed model.now ((F.state shelf.old).slot 0) ((F.state shelf.new).slot 0)) }
+    ensures at_end { OnOk result (IsAtEnd ((F.state shelf.new).slot 0).rest) }
+    ensures asked { IsAskedAtMost model.now ((F.state shelf.new).slot 0) }
+    ensures others { KeepsOthers 0 (F.state shelf.old) (F.state shelf.new) }
+    ensures later { ((F.state shelf.old).slot 0).faults ≤ ((F.state shelf.new).slot 0).faults }
 {
     let bytes = match read_whole(alloc, shelf, SLOT, model, MOST_MODEL) {
         Ok(bytes) => bytes,

@@ -1,7 +1,6 @@
 //! The header and the rows of a telemetry, past its blank lines.
-ghost use Rattle.std.specs.Prelude.{◌≡◌, ◌≢◌, ℕ, ◌<◌, ◌≤◌, List, [], ◌++◌, length, false, true, IfOk, IfErr, IfSome, IfNone};
+ghost use Rattle.std.specs.Prelude.{◌≡◌, ◌<◌, ◌≤◌, length, false, true, IfOk, IfErr, IfSome, IfNone};
 ghost use Rattle.std.specs.Io.KnownBytes.{IsAtEnd};
-ghost use Rattle.outside_io.specs.Causes.{Rose};
 ghost use Rattle.plant_model.specs.Seen.{sample_of};
 ghost use Rattle.telem_csv.specs.Columns.{AreFor};
 ghost use Rattle.telem_csv.specs.Cutter.{current, rows_owed, telemetry_owed};
@@ -9,14 +8,16 @@ ghost use Rattle.telem_csv.specs.Fed.{is_refusal};
 ghost use Rattle.telem_csv.specs.Rows.{no_rows, refused_rows, refused_at};
 ghost use Rattle.telem_csv.specs.Samples.{IsSampleFor};
 ghost use Rattle.telem_csv.specs.Telemetry.{no_header, has_header};
-ghost use Rattle.monitor_run.specs.Left.{left_of};
-ghost use Rattle.monitor_run.specs.Stream.{BothTold, ReadsOn, with_sample};
+ghost use Rattle.monitor_run.specs.Stream.{OnUnread, ReadsOn, HasReadCause, with_sample};
 
 use crate::stream::{Stream, StreamFault};
 use outside_io::Shelf;
 use plant_model::{Names, Sample};
 use std::alloc::Global;
 use telem_csv::{Header, TelemFault, TelemWhy, read_row};
+
+/// The slot of the telemetry.
+pub const SLOT: usize = 1;
 
 /// The header of the telemetry, for columns of these names.
 pub fn find_header<F: Shelf>(
@@ -26,23 +27,23 @@ pub fn find_header<F: Shelf>(
     inputs: &Names,
     outputs: &Names,
 ) -> Result<Header, StreamFault>
-    requires attached { F.attached shelf.old 1 ≡ true }
+    requires attached { ((F.state shelf.old).slot 1).attached ≡ true }
     requires going { is_refusal stream.old.cutter.last ≡ false }
     requires few { length inputs.now ≤ 4 }
-    ensures header { IfOk result (λ h. BothTold (F.rest shelf.old 1) (F.rest shelf.new 1) (λ r r'. telemetry_owed inputs.now outputs.now stream.old.cutter (left_of stream.old ++ r) ≡ has_header (rows_owed h stream.new.cutter (left_of stream.new ++ r')))) }
+    ensures header { IfOk result (λ h. OnUnread 1 stream.old (F.state shelf.old) stream.new (F.state shelf.new)
+        (λ u u'. telemetry_owed inputs.now outputs.now stream.old.cutter u ≡ has_header (rows_owed h stream.new.cutter u'))) }
     ensures counts { IfOk result (AreFor inputs.now outputs.now) }
     ensures going { IfOk result (λ h. is_refusal stream.new.cutter.last ≡ false) }
     ensures room { IfOk result (λ h. (current stream.new.cutter).room ≤ (current stream.old.cutter).room) }
-    ensures refused { IfErr result (λ e. (fault : TelemFault) → e ≡ StreamFault.Refused fault → BothTold (F.rest shelf.old 1) (F.rest shelf.new 1) (λ r r'. telemetry_owed inputs.now outputs.now stream.old.cutter (left_of stream.old ++ r) ≡ no_header fault)) }
-    ensures read { IfErr result (λ e. e ≡ StreamFault.Read → Rose (F.faults shelf.old 1) (F.faults shelf.new 1)) }
-    ensures kept { ReadsOn (F.attached shelf.old) (F.attached shelf.new) (F.asked shelf.old) (F.asked shelf.new) (F.rest shelf.old) (F.rest shelf.new) (F.faults shelf.old) (F.faults shelf.new) }
-    ensures files { (n : List ℕ) → F.file shelf.new n ≡ F.file shelf.old n }
+    ensures refused { IfErr result (λ e. (fault : TelemFault) → e ≡ StreamFault.Refused fault
+        → OnUnread 1 stream.old (F.state shelf.old) stream.new (F.state shelf.new)
+        (λ u _. telemetry_owed inputs.now outputs.now stream.old.cutter u ≡ no_header fault)) }
+    ensures read { IfErr result (HasReadCause 1 (F.state shelf.old) (F.state shelf.new)) }
+    ensures kept { ReadsOn 1 (F.state shelf.old) (F.state shelf.new) }
 {
     'lines: loop {
-        match stream.next_line(shelf) {
-            Ok(true) => {}
-            Ok(false) => return Err(no_header()),
-            Err(fault) => return Err(fault),
+        if !stream.next_line(shelf, SLOT)? {
+            return Err(no_header());
         }
         match Header::read(alloc, stream.cutter.line(), inputs, outputs) {
             Ok(Some(header)) => return Ok(header),
@@ -69,24 +70,25 @@ pub fn next_row<F: Shelf>(
     shelf: &mut F,
     head: &Header,
 ) -> Result<Option<Sample>, StreamFault>
-    requires attached { F.attached shelf.old 1 ≡ true }
+    requires attached { ((F.state shelf.old).slot 1).attached ≡ true }
     requires going { is_refusal stream.old.cutter.last ≡ false }
-    ensures row { IfOk result (λ o. IfSome o (λ s. BothTold (F.rest shelf.old 1) (F.rest shelf.new 1) (λ r r'. rows_owed head.now stream.old.cutter (left_of stream.old ++ r) ≡ with_sample (sample_of s) (rows_owed head.now stream.new.cutter (left_of stream.new ++ r'))))) }
+    ensures row { IfOk result (λ o. IfSome o (λ s. OnUnread 1 stream.old (F.state shelf.old) stream.new (F.state shelf.new)
+        (λ u u'. rows_owed head.now stream.old.cutter u ≡ with_sample (sample_of s) (rows_owed head.now stream.new.cutter u')))) }
     ensures counts { IfOk result (λ o. IfSome o (IsSampleFor head.now)) }
     ensures going { IfOk result (λ o. IfSome o (λ s. is_refusal stream.new.cutter.last ≡ false)) }
     ensures fewer { IfOk result (λ o. IfSome o (λ s. (current stream.new.cutter).room < (current stream.old.cutter).room)) }
-    ensures end { IfOk result (λ o. IfNone o (BothTold (F.rest shelf.old 1) (F.rest shelf.new 1) (λ r r'. (rows_owed head.now stream.old.cutter (left_of stream.old ++ r) ≡ no_rows) × (r' ≡ [])))) }
-    ensures at_end { IfOk result (λ o. IfNone o (IsAtEnd (F.rest shelf.new 1))) }
-    ensures refused { IfErr result (λ e. (fault : TelemFault) → e ≡ StreamFault.Refused fault → BothTold (F.rest shelf.old 1) (F.rest shelf.new 1) (λ r r'. rows_owed head.now stream.old.cutter (left_of stream.old ++ r) ≡ refused_rows fault)) }
-    ensures read { IfErr result (λ e. e ≡ StreamFault.Read → Rose (F.faults shelf.old 1) (F.faults shelf.new 1)) }
-    ensures kept { ReadsOn (F.attached shelf.old) (F.attached shelf.new) (F.asked shelf.old) (F.asked shelf.new) (F.rest shelf.old) (F.rest shelf.new) (F.faults shelf.old) (F.faults shelf.new) }
-    ensures files { (n : List ℕ) → F.file shelf.new n ≡ F.file shelf.old n }
+    ensures end { IfOk result (λ o. IfNone o (OnUnread 1 stream.old (F.state shelf.old) stream.new (F.state shelf.new)
+        (λ u _. rows_owed head.now stream.old.cutter u ≡ no_rows))) }
+    ensures at_end { IfOk result (λ o. IfNone o (IsAtEnd ((F.state shelf.new).slot 1).rest)) }
+    ensures refused { IfErr result (λ e. (fault : TelemFault) → e ≡ StreamFault.Refused fault
+        → OnUnread 1 stream.old (F.state shelf.old) stream.new (F.state shelf.new)
+        (λ u _. rows_owed head.now stream.old.cutter u ≡ refused_rows fault)) }
+    ensures read { IfErr result (HasReadCause 1 (F.state shelf.old) (F.state shelf.new)) }
+    ensures kept { ReadsOn 1 (F.state shelf.old) (F.state shelf.new) }
 {
     'lines: loop {
-        match stream.next_line(shelf) {
-            Ok(true) => {}
-            Ok(false) => return Ok(None),
-            Err(fault) => return Err(fault),
+        if !stream.next_line(shelf, SLOT)? {
+            return Ok(None);
         }
         match read_row(alloc, head, stream.cutter.line()) {
             Ok(Some(sample)) => return Ok(Some(sample)),

@@ -1,22 +1,13 @@
 //! The telemetry as a stream of lines, read from its slot in pieces.
-ghost use Rattle.std.specs.Prelude.{◌≡◌, ◌≢◌, ℕ, ◌+◌, ◌<◌, ◌≤◌, List, [], ◌++◌, length, take, drop, false, true, IsTrue, IfOk, IfErr, OnErr, Some, None, slice_range};
+ghost use Rattle.std.specs.Prelude.{◌≡◌, ◌≢◌, ℕ, ◌<◌, ◌≤◌, List, [], ◌++◌, length, false, true, IfOk, IfErr};
 ghost use Rattle.std.specs.Io.KnownBytes.{IsAtEnd};
-ghost use Rattle.outside_io.specs.Causes.{Rose};
-ghost use Rattle.outside_io.specs.Shelf.{KeepsOthers};
 ghost use Rattle.telem_csv.specs.Columns.{Columns};
 ghost use Rattle.telem_csv.specs.Cutter.{at_start, current, rows_owed, rows_after, telemetry_owed, telemetry_after};
 ghost use Rattle.telem_csv.specs.Fed.{is_refusal, cause_of};
 ghost use Rattle.telem_csv.specs.Rows.{refused_at};
-ghost use Rattle.monitor_run.specs.Stream.{BothTold, GoesOn, TellsLine, TellsEnd, TellsRefusal, ReadsOn};
 
 use outside_io::{GetFault, Shelf};
 use telem_csv::{Fed, LineCutter, TelemFault, TelemWhy};
-
-/// The slot of the telemetry.
-const SLOT: usize = 1;
-
-/// How many bytes are read at a time.
-const PIECE: usize = 4096;
 
 /// Why no line came.
 #[derive(Clone, Copy)]
@@ -29,11 +20,26 @@ pub enum StreamFault {
     Memory,
 }
 
+impl From<GetFault> for StreamFault {
+    ghost use Rattle.monitor_run.specs.Stream.{stream_fault};
+
+    ghost from_gives = { λ fault why. why ≡ stream_fault fault };
+
+    fn from(fault: GetFault) -> StreamFault {
+        match fault {
+            GetFault::Failed => StreamFault::Read,
+            GetFault::Memory => StreamFault::Memory,
+        }
+    }
+}
+
 /// A telemetry that is read on: the line at hand, and what was read of the next ones.
 #[derive(Drop)]
 pub struct Stream {
     pub cutter: LineCutter,
+    /// What was read last: 4,096 bytes are read at a time.
     pub piece: [u8; 4096],
+    /// What is left of it goes from here to `end`.
     pub at: usize,
     pub end: usize,
     ghost within: { at ≤ end },
@@ -42,6 +48,8 @@ pub struct Stream {
 
 impl Stream {
     ghost use Rattle.monitor_run.specs.Left.{left_of};
+    ghost use Rattle.monitor_run.specs.Stream.{BothTold, GoesOn, OnUnread, ReadsOn, HasReadCause};
+    ghost use Rattle.monitor_run.specs.Stream.{TellsLine, TellsEnd, TellsRefusal};
 
     /// Before the first byte of a telemetry of at most `limit` bytes.
     pub fn new(limit: u64) -> Stream
@@ -57,22 +65,25 @@ impl Stream {
         }
     }
 
-    /// Goes on to the next line, and says whether there is one.
-    pub fn next_line<F: Shelf>(&mut self, shelf: &mut F) -> Result<bool, StreamFault>
-        requires attached { F.attached shelf.old 1 ≡ true }
+    /// Goes on to the next line of the stream in this slot, and says whether there is one.
+    pub fn next_line<F: Shelf>(&mut self, shelf: &mut F, slot: usize) -> Result<bool, StreamFault>
+        requires slot { slot < 3 }
+        requires attached { ((F.state shelf.old).slot slot).attached ≡ true }
         requires going { is_refusal self.old.cutter.last ≡ false }
-        ensures line { IfOk result (λ b. b ≡ true → BothTold (F.rest shelf.old 1) (F.rest shelf.new 1) (λ r r'. TellsLine self.old.cutter (left_of self.old ++ r) self.new.cutter (left_of self.new ++ r'))) }
+        ensures line { IfOk result (λ b. b ≡ true
+            → OnUnread slot self.old (F.state shelf.old) self.new (F.state shelf.new) (TellsLine self.old.cutter self.new.cutter)) }
         ensures cut { IfOk result (λ b. b ≡ true → self.new.cutter.last ≡ Fed.Line) }
         ensures fewer { IfOk result (λ b. b ≡ true → (current self.new.cutter).room < (current self.old.cutter).room) }
-        ensures end { IfOk result (λ b. b ≡ false → BothTold (F.rest shelf.old 1) (F.rest shelf.new 1) (λ r r'. TellsEnd self.old.cutter (left_of self.old ++ r) × (r' ≡ []))) }
-        ensures at_end { IfOk result (λ b. b ≡ false → IsAtEnd (F.rest shelf.new 1)) }
-        ensures refused { IfErr result (λ e. (fault : TelemFault) → e ≡ StreamFault.Refused fault → BothTold (F.rest shelf.old 1) (F.rest shelf.new 1) (λ r r'. TellsRefusal self.old.cutter (left_of self.old ++ r) fault)) }
-        ensures read { IfErr result (λ e. e ≡ StreamFault.Read → Rose (F.faults shelf.old 1) (F.faults shelf.new 1)) }
-        ensures kept { ReadsOn (F.attached shelf.old) (F.attached shelf.new) (F.asked shelf.old) (F.asked shelf.new) (F.rest shelf.old) (F.rest shelf.new) (F.faults shelf.old) (F.faults shelf.new) }
-        ensures files { (n : List ℕ) → F.file shelf.new n ≡ F.file shelf.old n }
+        ensures end { IfOk result (λ b. b ≡ false
+            → OnUnread slot self.old (F.state shelf.old) self.new (F.state shelf.new) (λ u _. TellsEnd self.old.cutter u)) }
+        ensures at_end { IfOk result (λ b. b ≡ false → IsAtEnd ((F.state shelf.new).slot slot).rest) }
+        ensures refused { IfErr result (λ e. (fault : TelemFault) → e ≡ StreamFault.Refused fault
+            → OnUnread slot self.old (F.state shelf.old) self.new (F.state shelf.new) (λ u _. TellsRefusal self.old.cutter fault u)) }
+        ensures read { IfErr result (HasReadCause slot (F.state shelf.old) (F.state shelf.new)) }
+        ensures kept { ReadsOn slot (F.state shelf.old) (F.state shelf.new) }
     {
         loop {
-            if !self.has_bytes(shelf)? {
+            if !self.has_bytes(shelf, slot)? {
                 return self.finish();
             }
             match self.feed() {
@@ -84,54 +95,55 @@ impl Stream {
     }
 
     /// Reads the next piece where nothing of the last one is left, and says whether there is something.
-    fn has_bytes<F: Shelf>(&mut self, shelf: &mut F) -> Result<bool, StreamFault>
-        requires { F.attached shelf.old 1 ≡ true }
+    fn has_bytes<F: Shelf>(&mut self, shelf: &mut F, slot: usize) -> Result<bool, StreamFault>
+        requires slot { slot < 3 }
+        requires attached { ((F.state shelf.old).slot slot).attached ≡ true }
         ensures cutter { self.new.cutter ≡ self.old.cutter }
-        ensures bytes { IfOk result (λ b. BothTold (F.rest shelf.old 1) (F.rest shelf.new 1) (λ r r'. left_of self.old ++ r ≡ left_of self.new ++ r')) }
+        ensures bytes { IfOk result (λ b. OnUnread slot self.old (F.state shelf.old) self.new (F.state shelf.new) (λ u u'. u ≡ u')) }
         ensures some { IfOk result (λ b. b ≡ true → 0 < length (left_of self.new)) }
-        ensures none { IfOk result (λ b. b ≡ false → BothTold (F.rest shelf.old 1) (F.rest shelf.new 1) (λ r r'. (left_of self.new ++ r' ≡ []) × (r' ≡ []))) }
-        ensures at_end { IfOk result (λ b. b ≡ false → IsAtEnd (F.rest shelf.new 1)) }
-        ensures read { IfErr result (λ e. e ≡ StreamFault.Read → Rose (F.faults shelf.old 1) (F.faults shelf.new 1)) }
+        ensures none { IfOk result (λ b. b ≡ false
+            → OnUnread slot self.old (F.state shelf.old) self.new (F.state shelf.new) (λ _ u. u ≡ [])) }
+        ensures at_end { IfOk result (λ b. b ≡ false → IsAtEnd ((F.state shelf.new).slot slot).rest) }
+        ensures read { IfErr result (HasReadCause slot (F.state shelf.old) (F.state shelf.new)) }
         ensures not_refused { IfErr result (λ e. (fault : TelemFault) → e ≢ StreamFault.Refused fault) }
-        ensures kept { ReadsOn (F.attached shelf.old) (F.attached shelf.new) (F.asked shelf.old) (F.asked shelf.new) (F.rest shelf.old) (F.rest shelf.new) (F.faults shelf.old) (F.faults shelf.new) }
-        ensures files { (n : List ℕ) → F.file shelf.new n ≡ F.file shelf.old n }
+        ensures kept { ReadsOn slot (F.state shelf.old) (F.state shelf.new) }
     {
         if self.at < self.end {
             return Ok(true);
         }
-        self.fill(shelf)
+        self.fill(shelf, slot)
     }
 
     /// Reads the next piece, and says whether the slot had more.
-    fn fill<F: Shelf>(&mut self, shelf: &mut F) -> Result<bool, StreamFault>
-        requires attached { F.attached shelf.old 1 ≡ true }
+    fn fill<F: Shelf>(&mut self, shelf: &mut F, slot: usize) -> Result<bool, StreamFault>
+        requires slot { slot < 3 }
+        requires attached { ((F.state shelf.old).slot slot).attached ≡ true }
         requires used { self.old.at ≡ self.old.end }
         ensures cutter { self.new.cutter ≡ self.old.cutter }
-        ensures bytes { IfOk result (λ b. BothTold (F.rest shelf.old 1) (F.rest shelf.new 1) (λ r r'. r ≡ left_of self.new ++ r')) }
+        ensures bytes { IfOk result (λ b. BothTold ((F.state shelf.old).slot slot).rest ((F.state shelf.new).slot slot).rest
+            (λ r r'. r ≡ left_of self.new ++ r')) }
         ensures some { IfOk result (λ b. b ≡ true → 0 < length (left_of self.new)) }
-        ensures none { IfOk result (λ b. b ≡ false → (left_of self.new ≡ []) × BothTold (F.rest shelf.old 1) (F.rest shelf.new 1) (λ r r'. r' ≡ [])) }
-        ensures at_end { IfOk result (λ b. b ≡ false → IsAtEnd (F.rest shelf.new 1)) }
-        ensures read { IfErr result (λ e. e ≡ StreamFault.Read → Rose (F.faults shelf.old 1) (F.faults shelf.new 1)) }
+        ensures none { IfOk result (λ b. b ≡ false → left_of self.new ≡ []) }
+        ensures at_end { IfOk result (λ b. b ≡ false → IsAtEnd ((F.state shelf.new).slot slot).rest) }
+        ensures read { IfErr result (HasReadCause slot (F.state shelf.old) (F.state shelf.new)) }
         ensures not_refused { IfErr result (λ e. (fault : TelemFault) → e ≢ StreamFault.Refused fault) }
-        ensures kept { ReadsOn (F.attached shelf.old) (F.attached shelf.new) (F.asked shelf.old) (F.asked shelf.new) (F.rest shelf.old) (F.rest shelf.new) (F.faults shelf.old) (F.faults shelf.new) }
-        ensures files { (n : List ℕ) → F.file shelf.new n ≡ F.file shelf.old n }
+        ensures kept { ReadsOn slot (F.state shelf.old) (F.state shelf.new) }
     {
-        match shelf.next(SLOT, &mut self.piece) {
-            Ok(count) => {
-                self.at = 0;
-                self.end = count;
-                Ok(count > 0)
-            }
-            Err(GetFault::Failed) => Err(StreamFault::Read),
-            Err(GetFault::Memory) => Err(StreamFault::Memory),
-        }
+        let count = shelf.next(slot, &mut self.piece)?;
+        self.at = 0;
+        self.end = count;
+        Ok(count > 0)
     }
 
     /// Gives the cutter what was read.
     fn feed(&mut self) -> Fed
         requires { is_refusal self.old.cutter.last ≡ false }
-        ensures rows { (head : Columns) (rest : List ℕ) → rows_owed head self.old.cutter (left_of self.old ++ rest) ≡ rows_after head result self.new.cutter (left_of self.new ++ rest) }
-        ensures telemetry { (inputs outputs : List (List ℕ)) (rest : List ℕ) → telemetry_owed inputs outputs self.old.cutter (left_of self.old ++ rest) ≡ telemetry_after inputs outputs result self.new.cutter (left_of self.new ++ rest) }
+        ensures rows { (head : Columns) (rest : List ℕ)
+            → rows_owed head self.old.cutter (left_of self.old ++ rest)
+            ≡ rows_after head result self.new.cutter (left_of self.new ++ rest) }
+        ensures telemetry { (inputs outputs : List (List ℕ)) (rest : List ℕ)
+            → telemetry_owed inputs outputs self.old.cutter (left_of self.old ++ rest)
+            ≡ telemetry_after inputs outputs result self.new.cutter (left_of self.new ++ rest) }
         ensures line { result ≡ Fed.Line → (current self.new.cutter).room < (current self.old.cutter).room }
         ensures more { result ≡ Fed.More → GoesOn self.old.cutter self.new.cutter (left_of self.old) }
         ensures used { result ≡ Fed.More → self.new.at ≡ self.new.end }
@@ -147,13 +159,17 @@ impl Stream {
     /// The line behind the last line feed, if there is one.
     fn finish(&mut self) -> Result<bool, StreamFault>
         requires { is_refusal self.old.cutter.last ≡ false }
-        ensures rows { (head : Columns) → rows_owed head self.old.cutter [] ≡ rows_after head self.new.cutter.last self.new.cutter [] }
-        ensures telemetry { (inputs outputs : List (List ℕ)) → telemetry_owed inputs outputs self.old.cutter [] ≡ telemetry_after inputs outputs self.new.cutter.last self.new.cutter [] }
+        ensures rows { (head : Columns)
+            → rows_owed head self.old.cutter [] ≡ rows_after head self.new.cutter.last self.new.cutter [] }
+        ensures telemetry { (inputs outputs : List (List ℕ))
+            → telemetry_owed inputs outputs self.old.cutter []
+            ≡ telemetry_after inputs outputs self.new.cutter.last self.new.cutter [] }
         ensures fewer { self.new.cutter.last ≡ Fed.Line → (current self.new.cutter).room < (current self.old.cutter).room }
         ensures left { left_of self.new ≡ left_of self.old }
         ensures line { IfOk result (λ b. b ≡ true → self.new.cutter.last ≡ Fed.Line) }
         ensures end { IfOk result (λ b. b ≡ false → self.new.cutter.last ≡ Fed.Ended) }
-        ensures refused { IfErr result (λ e. e ≡ StreamFault.Refused (refused_at self.new.cutter.number (cause_of self.new.cutter.last)) × (is_refusal self.new.cutter.last ≡ true)) }
+        ensures refused { IfErr result (λ e. e ≡ StreamFault.Refused (refused_at self.new.cutter.number (cause_of self.new.cutter.last))) }
+        ensures refusal { IfErr result (λ _. is_refusal self.new.cutter.last ≡ true) }
     {
         match self.cutter.finish() {
             Fed::Line => Ok(true),

@@ -1,5 +1,5 @@
 // Reads a slot from its start to its end, or past a limit.
-ghost use Rattle.std.specs.Prelude.{◌≡◌, ℕ, ◌<◌, ◌≤◌, List, Some, None, length, IfOk, OnOk, OnErr, IsErrOf};
+ghost use Rattle.std.specs.Prelude.{◌≡◌, ◌<◌, ◌≤◌, Some, None, length, IfOk, OnOk, IsErrOf};
 ghost use Rattle.std.specs.Io.KnownBytes.{IsAtEnd};
 ghost use Rattle.outside_io.specs.Causes.{HasCause};
 ghost use Rattle.outside_io.specs.Shelf.{KeepsOthers};
@@ -17,16 +17,15 @@ pub fn read_whole<F: Shelf>(
     limit: usize,
 ) -> Result<Vec<u8>, GetFault>
     requires slot { slot < 3 }
-    requires fresh { F.asked shelf.old slot ≡ None }
+    requires fresh { ((F.state shelf.old).slot slot).asked ≡ None }
     requires limit { limit < 1073741825 }
-    ensures bytes { IfOk result (λ v. IsFront limit (F.file shelf.old name.now) v.items) }
-    ensures end { IfOk result (λ v. length v.items ≤ limit → IsAtEnd (F.rest shelf.new slot)) }
-    ensures asked { OnOk result (F.asked shelf.new slot ≡ Some name.now) }
-    ensures failed { IsErrOf result GetFault.Failed → F.asked shelf.new slot ≡ Some name.now }
-    ensures asked_at_most { IsAskedAtMost (F.asked shelf.new slot) name.now }
-    ensures files { (n : List ℕ) → F.file shelf.new n ≡ F.file shelf.old n }
-    ensures others { KeepsOthers slot (F.attached shelf.old) (F.attached shelf.new) (F.asked shelf.old) (F.asked shelf.new) (F.rest shelf.old) (F.rest shelf.new) (F.faults shelf.old) (F.faults shelf.new) }
-    ensures cause { HasCause Failed (F.faults shelf.old slot) (F.faults shelf.new slot) result }
+    ensures bytes { IfOk result (λ v. IsFront limit ((F.state shelf.old).file name.now) v.items) }
+    ensures end { IfOk result (λ v. length v.items ≤ limit → IsAtEnd ((F.state shelf.new).slot slot).rest) }
+    ensures asked { OnOk result (((F.state shelf.new).slot slot).asked ≡ Some name.now) }
+    ensures failed { IsErrOf result GetFault.Failed → ((F.state shelf.new).slot slot).asked ≡ Some name.now }
+    ensures asked_at_most { IsAskedAtMost name.now ((F.state shelf.new).slot slot) }
+    ensures others { KeepsOthers slot (F.state shelf.old) (F.state shelf.new) }
+    ensures cause { HasCause Failed ((F.state shelf.old).slot slot).faults ((F.state shelf.new).slot slot).faults result }
 {
     shelf.attach(slot, name)?;
     let mut bytes = Vec::new(alloc);

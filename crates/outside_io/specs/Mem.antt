@@ -1,12 +1,14 @@
 -- What the shelf and the sink that fail at chosen calls hold, and which call fails.
-use Rattle.std.specs.Prelude.{ℕ, List, Bool, Option, ◌==◌, ◌&&◌, ◌||◌, is_none, slice_index}
+use Rattle.std.specs.Prelude.{ℕ, List, Bool, Some, ◌==◌, ◌&&◌, ◌||◌, is_none, slice_index}
 use Rattle.std.specs.List.{list_any}
 use Rattle.outside_io.specs.declared.mem.MemSink.{MemSink}
 use Rattle.outside_io.specs.declared.mem.MemShelf.{MemShelf}
 use Rattle.outside_io.specs.Causes.{next_count}
 use Rattle.outside_io.specs.Files.{bytes_of}
-use Rattle.outside_io.specs.Places.{place_of, name_at, is_open, left_at}
-use Rattle.outside_io.specs.Sure.{sink_bytes, wants_of}
+use Rattle.outside_io.specs.Places.{place_of, slot_of}
+use Rattle.outside_io.specs.Shelf.{ShelfState}
+use Rattle.outside_io.specs.Sink.{SinkState}
+use Rattle.outside_io.specs.Sure.{sink_bytes}
 
 abbrev pub held_of : MemSink → List ℕ
 held_of s = sink_bytes s.sink
@@ -19,39 +21,19 @@ puts_of s = s.calls
 abbrev pub failing_puts_of : MemSink → List ℕ
 failing_puts_of s = s.fails.items
 
--- how often the sink has failed
-abbrev pub put_faults_of : MemSink → ℕ
-put_faults_of s = s.faults
-
--- how often the sink has wanted memory
-abbrev pub put_wants_of : MemSink → ℕ
-put_wants_of s = wants_of s.sink
+abbrev pub mem_sink : MemSink → SinkState
+mem_sink s = record { held = Some (held_of s); faults = s.faults; wants = s.sink.wanted }
 
 -- the next `put` is one that fails
 abbrev pub put_is_due : MemSink → Bool
 put_is_due s = list_any (λ n. n == next_count (puts_of s)) (failing_puts_of s)
 
-abbrev pub file_of : MemShelf → List ℕ → Option (List ℕ)
-file_of s name = bytes_of s.files name
-
--- the name that a slot was asked for
-abbrev pub name_of_slot : MemShelf → ℕ → Option (List ℕ)
-name_of_slot s q = name_at (place_of s.slots q)
-
-abbrev pub slot_is_open : MemShelf → ℕ → Bool
-slot_is_open s q = is_open (place_of s.slots q)
-
--- what is still to be read from a slot
-abbrev pub slot_left : MemShelf → ℕ → Option (List ℕ)
-slot_left s q = left_at (place_of s.slots q)
+abbrev pub mem_shelf : MemShelf → ShelfState
+mem_shelf s = record { slot = λ q. slot_of (place_of s.slots q) (slice_index s.faults q); file = bytes_of s.files }
 
 -- how often a slot was called
 abbrev pub calls_of : MemShelf → ℕ → ℕ
 calls_of s q = slice_index s.calls q
-
--- how often a slot has failed
-abbrev pub faults_of : MemShelf → ℕ → ℕ
-faults_of s q = slice_index s.faults q
 
 -- the calls that fail, each by its slot and its number on that slot
 abbrev pub fails_of : MemShelf → List (ℕ × ℕ)
@@ -63,4 +45,4 @@ is_due s q = list_any (λ f. f.0 == q && f.1 == next_count (calls_of s q)) (fail
 
 -- an attach of this name to this slot fails
 abbrev pub fails_to_open : MemShelf → ℕ → List ℕ → Bool
-fails_to_open s q name = is_due s q || is_none (file_of s name)
+fails_to_open s q name = is_due s q || is_none (bytes_of s.files name)

@@ -1,11 +1,12 @@
 // A shelf and a sink in memory that fail at chosen calls.
-ghost use Rattle.std.specs.Prelude.{◌≡◌, ◌≢◌, ◌<◌, ◌≤◌, ℕ, List, [], ◌++◌, None, Some, true, length, slice_set, IsTrue, IsErr, IsErrOf, IsOk, IfOk, OnOk, OnErr};
-ghost use Rattle.std.specs.Io.{ReadsAtMost};
-ghost use Rattle.std.specs.Io.KnownBytes.{ReadConsumes};
+ghost use Rattle.std.specs.Prelude.{◌≡◌, ◌≢◌, ◌<◌, ◌≤◌, ℕ, List, [], ◌++◌, None, Some, true, length, slice_set};
+ghost use Rattle.std.specs.Prelude.{IsTrue, IsErr, IsErrOf, IsOk, IfOk, OnOk, OnErr};
 ghost use Rattle.std.proofs.Common.{rules};
-ghost use Rattle.outside_io.specs.Causes.{HasCause, next_count};
+ghost use Rattle.outside_io.specs.Causes.{next_count};
 ghost use Rattle.outside_io.specs.Places.{GivesMost};
-ghost use Rattle.outside_io.specs.Shelf.{IsFresh, KeepsOthers, Same, asked_after};
+ghost use Rattle.outside_io.specs.Shelf.{Attaches, IsFresh, Reads};
+ghost use Rattle.outside_io.specs.Sink.{PutsSome};
+ghost use Rattle.outside_io.specs.Slots.{Same};
 
 use crate::files::Files;
 use crate::opened::Opened;
@@ -23,15 +24,15 @@ pub struct MemSink {
 }
 
 impl MemSink {
-    ghost use Rattle.outside_io.specs.Mem.{held_of, puts_of, failing_puts_of, put_faults_of, put_wants_of, put_is_due};
+    ghost use Rattle.outside_io.specs.Mem.{held_of, puts_of, failing_puts_of, mem_sink, put_is_due};
 
     /// An empty sink, whose `put` fails where the number of the call, from 1, is one of `fails`.
     pub fn of(alloc: Global, fails: &[u64]) -> Result<MemSink, AllocError>
         ensures empty { IfOk result (λ s. held_of s ≡ []) }
         ensures fails { IfOk result (λ s. failing_puts_of s ≡ fails.now) }
         ensures calls { IfOk result (λ s. puts_of s ≡ 0) }
-        ensures no_faults { IfOk result (λ s. put_faults_of s ≡ 0) }
-        ensures no_wants { IfOk result (λ s. put_wants_of s ≡ 0) }
+        ensures no_faults { IfOk result (λ s. (mem_sink s).faults ≡ 0) }
+        ensures no_wants { IfOk result (λ s. (mem_sink s).wants ≡ 0) }
     {
         Ok(MemSink {
             sink: SureSink::of(alloc),
@@ -59,25 +60,19 @@ impl MemSink {
 }
 
 impl Sink for MemSink {
-    ghost use Rattle.outside_io.specs.Mem.{held_of, puts_of, failing_puts_of, put_faults_of, put_wants_of, put_is_due};
+    ghost use Rattle.outside_io.specs.Mem.{held_of, puts_of, failing_puts_of, mem_sink, put_is_due};
 
-    ghost held = { λ s. Some (held_of s) };
-
-    ghost faults = { put_faults_of };
-
-    ghost wants = { put_wants_of };
+    ghost state = { mem_sink };
 
     fn put(&mut self, piece: &[u8]) -> Result<usize, PutFault>
         ensures due { IsTrue (put_is_due self.old) → IsErrOf result PutFault.Failed }
         ensures not_due { ¬ IsTrue (put_is_due self.old) → ¬ IsErrOf result PutFault.Failed }
+        ensures puts { PutsSome piece.now (mem_sink self.old) result (mem_sink self.new) }
         ensures whole { IfOk result (λ n. n ≡ length piece.now) }
         ensures bytes { OnOk result (held_of self.new ≡ held_of self.old ++ piece.now) }
-        ensures keeps { OnErr result (held_of self.new ≡ held_of self.old) }
         ensures calls { puts_of self.new ≡ next_count (puts_of self.old) }
         ensures fails { failing_puts_of self.new ≡ failing_puts_of self.old }
-        ensures calm { OnOk result (put_faults_of self.new ≡ put_faults_of self.old) }
-        ensures failed { HasCause PutFault.Failed (put_faults_of self.old) (put_faults_of self.new) result }
-        ensures memory { HasCause PutFault.Memory (put_wants_of self.old) (put_wants_of self.new) result }
+        ensures calm { OnOk result ((mem_sink self.new).faults ≡ (mem_sink self.old).faults) }
     {
         if self.count() {
             self.faults = self.faults.saturating_add(1);
@@ -99,15 +94,15 @@ pub struct MemShelf {
 }
 
 impl MemShelf {
-    ghost use Rattle.outside_io.specs.Mem.{file_of, name_of_slot, calls_of, faults_of, fails_of, is_due};
+    ghost use Rattle.outside_io.specs.Mem.{mem_shelf, calls_of, fails_of, is_due};
 
     /// A shelf with no files. A call fails where its slot and its number on that slot, from 1 with `attach`, are one of `fails`.
     pub fn of(alloc: Global, fails: &[(usize, u64)]) -> Result<MemShelf, AllocError>
-        ensures files { IfOk result (λ s. (n : List ℕ) → file_of s n ≡ None) }
-        ensures fresh { IfOk result (λ s. IsFresh (name_of_slot s)) }
+        ensures files { IfOk result (λ s. (n : List ℕ) → (mem_shelf s).file n ≡ None) }
+        ensures fresh { IfOk result (λ s. IsFresh (mem_shelf s)) }
         ensures fails { IfOk result (λ s. fails_of s ≡ fails.now) }
         ensures calls { IfOk result (λ s. (q : ℕ) → calls_of s q ≡ 0) }
-        ensures faults { IfOk result (λ s. (q : ℕ) → faults_of s q ≡ 0) }
+        ensures faults { IfOk result (λ s. (q : ℕ) → ((mem_shelf s).slot q).faults ≡ 0) }
     {
         Ok(MemShelf {
             alloc,
@@ -121,14 +116,14 @@ impl MemShelf {
 
     /// Makes these bytes the file of this name.
     pub fn add(&mut self, name: &str, bytes: &[u8]) -> Result<(), AllocError>
-        requires { IsFresh (name_of_slot self.old) }
-        ensures added { OnOk result (file_of self.new name.now ≡ Some bytes.now) }
-        ensures others { OnOk result ((n : List ℕ) → n ≢ name.now → file_of self.new n ≡ file_of self.old n) }
-        ensures err { OnErr result ((n : List ℕ) → file_of self.new n ≡ file_of self.old n) }
-        ensures fresh { IsFresh (name_of_slot self.new) }
+        requires { IsFresh (mem_shelf self.old) }
+        ensures added { OnOk result ((mem_shelf self.new).file name.now ≡ Some bytes.now) }
+        ensures others { OnOk result ((n : List ℕ) → n ≢ name.now → (mem_shelf self.new).file n ≡ (mem_shelf self.old).file n) }
+        ensures err { OnErr result ((n : List ℕ) → (mem_shelf self.new).file n ≡ (mem_shelf self.old).file n) }
+        ensures fresh { IsFresh (mem_shelf self.new) }
         ensures fails { fails_of self.new ≡ fails_of self.old }
         ensures calls { (q : ℕ) → calls_of self.new q ≡ calls_of self.old q }
-        ensures faults { (q : ℕ) → faults_of self.new q ≡ faults_of self.old q }
+        ensures slots { (q : ℕ) → (mem_shelf self.new).slot q ≡ (mem_shelf self.old).slot q }
     {
         self.files.add(self.alloc, name, bytes)
     }
@@ -137,7 +132,8 @@ impl MemShelf {
     fn count(&mut self, slot: usize) -> bool
         requires { slot < 3 }
         ensures due { result ≡ is_due self.old slot }
-        ensures counted { self.new ≡ record self.old { calls = slice_set self.old.calls slot (next_count (calls_of self.old slot)) } }
+        ensures counted { self.new
+            ≡ record self.old { calls = slice_set self.old.calls slot (next_count (calls_of self.old slot)) } }
     {
         let number = self.calls[slot].saturating_add(1);
         self.calls[slot] = number;
@@ -148,8 +144,9 @@ impl MemShelf {
     fn fail(&mut self, slot: usize) -> GetFault
         requires { slot < 3 }
         ensures fault { result ≡ GetFault.Failed }
-        ensures later { faults_of self.old slot ≤ faults_of self.new slot }
-        ensures counted { self.new ≡ record self.old { faults = slice_set self.old.faults slot (next_count (faults_of self.old slot)) } }
+        ensures later { ((mem_shelf self.old).slot slot).faults ≤ ((mem_shelf self.new).slot slot).faults }
+        ensures counted { self.new
+            ≡ record self.old { faults = slice_set self.old.faults slot (next_count ((mem_shelf self.old).slot slot).faults) } }
     {
         self.faults[slot] = self.faults[slot].saturating_add(1);
         GetFault::Failed
@@ -157,37 +154,22 @@ impl MemShelf {
 }
 
 impl Shelf for MemShelf {
-    ghost use Rattle.outside_io.specs.Mem.{file_of, name_of_slot, slot_is_open, slot_left, calls_of, faults_of, fails_of, is_due, fails_to_open};
+    ghost use Rattle.outside_io.specs.Mem.{mem_shelf, calls_of, fails_of, is_due, fails_to_open};
 
-    ghost attached = { slot_is_open };
-
-    ghost asked = { name_of_slot };
-
-    ghost file = { file_of };
-
-    ghost rest = { slot_left };
-
-    ghost faults = { faults_of };
+    ghost state = { mem_shelf };
 
     ghost attached_was_asked = { λ s q. Prim.search rules };
 
     fn attach(&mut self, slot: usize, name: &str) -> Result<(), GetFault>
         requires slot { slot < 3 }
-        requires fresh { name_of_slot self.old slot ≡ None }
+        requires fresh { ((mem_shelf self.old).slot slot).asked ≡ None }
         ensures due { IsTrue (fails_to_open self.old slot name.now) → IsErr result }
         ensures not_due { ¬ IsTrue (fails_to_open self.old slot name.now) → ¬ IsErrOf result GetFault.Failed }
+        ensures attaches { Attaches slot name.now (mem_shelf self.old) result (mem_shelf self.new) }
         ensures calls { calls_of self.new slot ≡ next_count (calls_of self.old slot) }
         ensures other_calls { Same slot (calls_of self.old) (calls_of self.new) }
         ensures fails { fails_of self.new ≡ fails_of self.old }
-        ensures attached { OnOk result (slot_is_open self.new slot ≡ true) }
-        ensures not_attached { OnErr result (slot_is_open self.new slot ≡ slot_is_open self.old slot) }
-        ensures asked { name_of_slot self.new slot ≡ asked_after (name_of_slot self.old slot) name.now result }
-        ensures begins { OnOk result (slot_left self.new slot ≡ file_of self.old name.now) }
-        ensures keeps { OnErr result (slot_left self.new slot ≡ slot_left self.old slot) }
-        ensures files { (n : List ℕ) → file_of self.new n ≡ file_of self.old n }
-        ensures others { KeepsOthers slot (slot_is_open self.old) (slot_is_open self.new) (name_of_slot self.old) (name_of_slot self.new) (slot_left self.old) (slot_left self.new) (faults_of self.old) (faults_of self.new) }
-        ensures calm { OnOk result (faults_of self.new slot ≡ faults_of self.old slot) }
-        ensures cause { HasCause GetFault.Failed (faults_of self.old slot) (faults_of self.new slot) result }
+        ensures calm { OnOk result (((mem_shelf self.new).slot slot).faults ≡ ((mem_shelf self.old).slot slot).faults) }
     {
         let due = self.count(slot);
         let copy = match String::from_str(self.alloc, name) {
@@ -212,22 +194,15 @@ impl Shelf for MemShelf {
 
     fn next(&mut self, slot: usize, into: &mut [u8]) -> Result<usize, GetFault>
         requires slot { slot < 3 }
-        requires attached { slot_is_open self.old slot ≡ true }
+        requires attached { ((mem_shelf self.old).slot slot).attached ≡ true }
         ensures due { IsTrue (is_due self.old slot) → result ≡ Err GetFault.Failed }
         ensures not_due { ¬ IsTrue (is_due self.old slot) → IsOk result }
-        ensures most { IfOk result (λ n. GivesMost (slot_left self.old slot) (length into.new) n) }
+        ensures most { IfOk result (λ n. GivesMost ((mem_shelf self.old).slot slot).rest (length into.new) n) }
+        ensures reads { Reads slot (mem_shelf self.old) result into.new (mem_shelf self.new) }
         ensures calls { calls_of self.new slot ≡ next_count (calls_of self.old slot) }
         ensures other_calls { Same slot (calls_of self.old) (calls_of self.new) }
         ensures fails { fails_of self.new ≡ fails_of self.old }
-        ensures bound { ReadsAtMost result into.new }
-        ensures bytes { ReadConsumes (slot_left self.old slot) (slot_left self.new slot) result into.new }
-        ensures keeps { OnErr result (slot_left self.new slot ≡ slot_left self.old slot) }
-        ensures attached { slot_is_open self.new slot ≡ slot_is_open self.old slot }
-        ensures asked { name_of_slot self.new slot ≡ name_of_slot self.old slot }
-        ensures files { (n : List ℕ) → file_of self.new n ≡ file_of self.old n }
-        ensures others { KeepsOthers slot (slot_is_open self.old) (slot_is_open self.new) (name_of_slot self.old) (name_of_slot self.new) (slot_left self.old) (slot_left self.new) (faults_of self.old) (faults_of self.new) }
-        ensures calm { OnOk result (faults_of self.new slot ≡ faults_of self.old slot) }
-        ensures cause { HasCause GetFault.Failed (faults_of self.old slot) (faults_of self.new slot) result }
+        ensures calm { OnOk result (((mem_shelf self.new).slot slot).faults ≡ ((mem_shelf self.old).slot slot).faults) }
     {
         if self.count(slot) {
             return Err(self.fail(slot));

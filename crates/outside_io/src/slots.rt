@@ -1,7 +1,7 @@
 // Three slots over files in memory.
 ghost use Rattle.std.specs.Prelude.{◌≡◌, ℕ, ◌<◌, ◌≤◌, List, None, true, length, take};
 ghost use Rattle.std.specs.Io.KnownBytes.{Consumes, IsAtEnd};
-ghost use Rattle.outside_io.specs.Shelf.{Same};
+ghost use Rattle.outside_io.specs.Slots.{Same};
 
 use crate::opened::Opened;
 

@@ -1,7 +1,9 @@
 -- What a run answers, from how it ended.
-use Rattle.std.proofs.Common.{◌≡◌, ◌⊎◌, inl, inr, List, ℕ, Option, Some, None, IfSome, IsSome, Result, Ok, Err, refl, sym, ap, subst, length, is_none}
+use Rattle.std.proofs.Common.{◌≡◌, ◌≢◌, ◌⊎◌, ◌==◌, if◌then◌else◌, inl, inr, List, ℕ, Bool, true, false, Option, Some, None, IfSome, IsSome, Result, Ok, Err, refl, sym, ap, subst, length, is_none, arith}
+use Rattle.std.proofs.lemmas.Bool.Decides.{nat_tests}
 use Rattle.outside_io.specs.Causes.{Rose}
-use Rattle.outside_io.specs.Sink.{AppendsFront}
+use Rattle.outside_io.specs.Shelf.{ShelfState}
+use Rattle.outside_io.specs.Sink.{SinkState, AppendsFront, Gains, GainsFront}
 use Rattle.outside_io.proofs.Fronts.{no-front, all-front}
 use Rattle.model_file.specs.Bank.{Models}
 use Rattle.model_file.specs.ModelFile.{models_of}
@@ -16,11 +18,12 @@ use Rattle.monitor_run.specs.declared.done.Done.{Done}
 use Rattle.monitor_run.specs.declared.done.RunFault.{RunFault}
 use Rattle.monitor_run.specs.declared.done.RunFault.TheVariants as run
 use Rattle.monitor_run.specs.Files.{Files, bad_model, bad_header, monitored, files_of, with_models, refused, model_refusal, telemetry_refusal, report_of}
-use Rattle.monitor_run.specs.Outcome.{OnBytes, SaysOfModel, SaysOfFiles, Puts, ReadsFailed as SlotFailed}
+use Rattle.monitor_run.specs.Outcome.{OnBytes, OnFile, OnFiles, SaysOfModel, SaysOfFiles, PutsReport, PutsNothing, AsksModelFirst, AsksInOrder, AreRead, ReadsFailed, RunsThrough}
 use Rattle.zonomon_run.specs.Words.{asked_by, monitor}
-use Rattle.zonomon_run.specs.Ending.{status_of}
+use Rattle.zonomon_run.specs.Ending.{status_of, text_of, Tells}
+use Rattle.zonomon_run.specs.declared.ending.Ending.TheVariants.{ReadModel, ReadTelemetry}
 use Rattle.zonomon_run.specs.Endings.{ending_of}
-use Rattle.zonomon_run.specs.Runs.{OnRun, OnFiles, IsAccepted, NoneRose, TrueHulls, TrueExclusions, TrueMisses}
+use Rattle.zonomon_run.specs.Runs.{Outside, OnRun, OnNamed, IsAccepted, IsRunStatus, NoneRose, ModelUnread, TelemetryUnread, Monitors, report_text, TrueHulls, TrueExclusions, TrueMisses}
 
 pub on-bytes : (model telemetry : Option (List ℕ)) (P : List ℕ → List ℕ → Type 0) → ((m t : List ℕ) → P m t) → OnBytes model telemetry P
 on-bytes None telemetry P f = tt
@@ -41,8 +44,8 @@ on-run words P m t is claim model telemetry e =
     subst (λ x. P x telemetry) same (subst (λ x. P m x) same' claim)
 
 -- a claim that holds of all files
-pub on-files : (words : List (List ℕ)) (file : List ℕ → Option (List ℕ)) (P : Files → Type 0) → ((f : Files) → P f) → OnFiles words file P
-on-files words file P f model telemetry e = on-bytes (file model) (file telemetry) _ (λ m t. f (files_of m t))
+pub on-files : (words : List (List ℕ)) (shelf : ShelfState) (P : Files → Type 0) → ((f : Files) → P f) → OnNamed words shelf P
+on-files words shelf P f model telemetry e = on-bytes (shelf.file model) (shelf.file telemetry) _ (λ m t. f (files_of m t))
 
 -- ---- files that are refused
 
@@ -61,32 +64,46 @@ accepted-not-refused (monitored ms rows) fault e h = cc
 
 -- ---- how a run ended
 
-pub puts-front : (r : Result Done RunFault) (held held' : Option (List ℕ)) (lines : List Line) → Puts r held held' lines → AppendsFront held held' (lines_text lines)
-puts-front (Ok done) held held' lines h = all-front held held' (lines_text lines) h
-puts-front (Err (run.Model fault)) held held' lines h = subst (λ x. AppendsFront held x (lines_text lines)) (sym h) (no-front held (lines_text lines))
-puts-front (Err (run.Telemetry fault)) held held' lines h = all-front held held' (lines_text lines) h
-puts-front (Err (run.Read slot)) held held' lines h = h
-puts-front (Err run.Write) held held' lines h = h
-puts-front (Err run.Memory) held held' lines h = h
+puts-front : (r : Result Done RunFault) (before after : SinkState) (lines : List Line) → PutsReport lines before r after → GainsFront (lines_text lines) before after
+puts-front (Ok done) before after lines h = all-front before.held after.held (lines_text lines) h
+puts-front (Err (run.Model fault)) before after lines h = subst (λ x. AppendsFront before.held x (lines_text lines)) (sym h) (no-front before.held (lines_text lines))
+puts-front (Err (run.Telemetry fault)) before after lines h = all-front before.held after.held (lines_text lines) h
+puts-front (Err (run.Read slot)) before after lines h = h
+puts-front (Err run.Write) before after lines h = h
+puts-front (Err run.Memory) before after lines h = h
 
-pub all-front-of : (model telemetry held held' : Option (List ℕ)) (r : Result Done RunFault) → OnBytes model telemetry (λ m t. Puts r held held' (report_of (files_of m t)))
-    → OnBytes model telemetry (λ m t. AppendsFront held held' (lines_text (report_of (files_of m t))))
-all-front-of None telemetry held held' r h = tt
-all-front-of (Some m) None held held' r h = tt
-all-front-of (Some m) (Some t) held held' r h = puts-front r held held' (report_of (files_of m t)) h
+pub all-front-of : (model telemetry : Option (List ℕ)) (before after : SinkState) (r : Result Done RunFault) → OnBytes model telemetry (λ m t. PutsReport (report_of (files_of m t)) before r after)
+    → OnBytes model telemetry (λ m t. GainsFront (report_text (files_of m t)) before after)
+all-front-of None telemetry before after r h = tt
+all-front-of (Some m) None before after r h = tt
+all-front-of (Some m) (Some t) before after r h = puts-front r before after (report_of (files_of m t)) h
 
-module _ (fault : RunFault) (model telemetry : Option (List ℕ)) (name name' : List ℕ) (before now : ℕ → ℕ) (asked : ℕ → Option (List ℕ)) (out out' : ℕ)
-    (says_model : IfSome model (SaysOfModel (Err fault))) (says_files : OnBytes model telemetry (λ m t. SaysOfFiles (Err fault) (files_of m t)))
-    (reads : (slot : ℕ) → fault ≡ run.Read slot → SlotFailed before now asked name name' slot) (writes : fault ≡ run.Write → Rose out out') where
-  no-read : (slot : ℕ) → SlotFailed before now asked name name' slot → NoneRose before now out out' → ⊥
+-- the slot that could not be read
+pub unread : (slot : ℕ) (model telemetry : List ℕ) (before after : Outside) → ReadsFailed model telemetry before.shelf after.shelf slot → Tells (text_of (ending_of (run.Read slot))) before.err after.err
+    → PutsNothing before.out (Err (run.Read slot)) after.out → AsksModelFirst (Err (run.Read slot)) (after.shelf.slot 1).asked → ModelUnread model before after ⊎ TelemetryUnread telemetry before after
+unread slot model telemetry before after (inl h) told nothing first = inl (record {
+  failed = h.1;
+  told = subst (λ slot. Tells (text_of (ending_of (run.Read slot))) before.err after.err) h.0 told;
+  nothing = nothing h.0;
+  asked_first = first h.0;
+})
+unread slot model telemetry before after (inr h) told nothing first = inr (record {
+  failed = h.1;
+  told = subst (λ slot. Tells (text_of (ending_of (run.Read slot))) before.err after.err) h.0 told;
+})
+
+module _ (fault : RunFault) (model telemetry : List ℕ) (before after : Outside)
+    (says_model : OnFile before.shelf model (SaysOfModel (Err fault))) (says_files : OnFiles before.shelf model telemetry (SaysOfFiles (Err fault)))
+    (reads : (slot : ℕ) → fault ≡ run.Read slot → ReadsFailed model telemetry before.shelf after.shelf slot) (writes : fault ≡ run.Write → Rose before.out.faults after.out.faults) where
+  no-read : (slot : ℕ) → ReadsFailed model telemetry before.shelf after.shelf slot → NoneRose before after → ⊥
   no-read slot (inl h) none = none.model h.1.rose
   no-read slot (inr h) none = none.telemetry h.1.rose
 
   -- files that are accepted end it only for want of memory
-  pub complete : OnBytes model telemetry (λ m t. IsAccepted (files_of m t) → NoneRose before now out out' → (status_of (ending_of fault) ≡ 0) ⊎ (status_of (ending_of fault) ≡ 6))
-  complete = both-say model telemetry _ _ _ (by fault refl) says_model says_files
+  pub complete : OnFiles before.shelf model telemetry (λ f. IsAccepted f → NoneRose before after → (status_of (ending_of fault) ≡ 0) ⊎ (status_of (ending_of fault) ≡ 6))
+  complete = both-say (before.shelf.file model) (before.shelf.file telemetry) _ _ _ (by fault refl) says_model says_files
     where
-      by : (g : RunFault) → fault ≡ g → (m t : List ℕ) → SaysOfModel (Err fault) m → SaysOfFiles (Err fault) (files_of m t) → IsAccepted (files_of m t) → NoneRose before now out out' → (status_of (ending_of fault) ≡ 0) ⊎ (status_of (ending_of fault) ≡ 6)
+      by : (g : RunFault) → fault ≡ g → (m t : List ℕ) → SaysOfModel (Err fault) m → SaysOfFiles (Err fault) (files_of m t) → IsAccepted (files_of m t) → NoneRose before after → (status_of (ending_of fault) ≡ 0) ⊎ (status_of (ending_of fault) ≡ 6)
       by (run.Model x) e m t a b accepted none =
           let bad = refused-model m t x (subst (λ g. SaysOfModel (Err g) m) e a) in
           absurd (subst IsAccepted bad accepted)
@@ -96,14 +113,14 @@ module _ (fault : RunFault) (model telemetry : Option (List ℕ)) (name name' : 
       by run.Memory e m t a b accepted none = inr (ap (λ g. status_of (ending_of g)) e)
 
   -- a telemetry that is refused ends it so, or for want of memory
-  pub refuses : OnBytes model telemetry (λ m t. IsSome (telemetry_refusal (files_of m t)) → NoneRose before now out out' → (status_of (ending_of fault) ≡ 3) ⊎ (status_of (ending_of fault) ≡ 6))
-  refuses = both-say model telemetry _ _ _ (by fault refl) says_model says_files
+  pub refuses : OnFiles before.shelf model telemetry (λ f. IsSome (telemetry_refusal f) → NoneRose before after → (status_of (ending_of fault) ≡ 3) ⊎ (status_of (ending_of fault) ≡ 6))
+  refuses = both-say (before.shelf.file model) (before.shelf.file telemetry) _ _ _ (by fault refl) says_model says_files
     where
       not-some : (o : Option TelemFault) → o ≡ None → IsSome o → ⊥
       not-some None e s = cc
       not-some (Some x) e s = cc
 
-      by : (g : RunFault) → fault ≡ g → (m t : List ℕ) → SaysOfModel (Err fault) m → SaysOfFiles (Err fault) (files_of m t) → IsSome (telemetry_refusal (files_of m t)) → NoneRose before now out out' → (status_of (ending_of fault) ≡ 3) ⊎ (status_of (ending_of fault) ≡ 6)
+      by : (g : RunFault) → fault ≡ g → (m t : List ℕ) → SaysOfModel (Err fault) m → SaysOfFiles (Err fault) (files_of m t) → IsSome (telemetry_refusal (files_of m t)) → NoneRose before after → (status_of (ending_of fault) ≡ 3) ⊎ (status_of (ending_of fault) ≡ 6)
       by (run.Model x) e m t a b refused none =
           let bad = refused-model m t x (subst (λ g. SaysOfModel (Err g) m) e a) in
           absurd (not-some (telemetry_refusal (files_of m t)) (ap telemetry_refusal bad) refused)
@@ -111,6 +128,156 @@ module _ (fault : RunFault) (model telemetry : Option (List ℕ)) (name name' : 
       by (run.Read slot) e m t a b refused none = absurd (no-read slot (reads slot e) none)
       by run.Write e m t a b refused none = absurd (none.output (writes e))
       by run.Memory e m t a b refused none = inr (ap (λ g. status_of (ending_of g)) e)
+
+-- ---- the status of an ending
+
+abbrev status : RunFault → ℕ
+status fault = status_of (ending_of fault)
+
+read-status : (b : Bool) → status_of (if b then ReadModel else ReadTelemetry) ≡ 4
+read-status true = refl
+read-status false = refl
+
+run-status : (fault : RunFault) → IsRunStatus (status fault)
+run-status (run.Model x) = inr (inl refl)
+run-status (run.Telemetry x) = inr (inr (inl refl))
+run-status (run.Read slot) = inr (inr (inr (inl (read-status (slot == 0)))))
+run-status run.Write = inr (inr (inr (inr (inl refl))))
+run-status run.Memory = inr (inr (inr (inr (inr refl))))
+
+not-zero : (fault : RunFault) → status fault ≡ 0 → ⊥
+not-zero (run.Model x) e = omega arith
+not-zero (run.Telemetry x) e = omega arith
+not-zero (run.Read slot) e = let four = read-status (slot == 0) in omega arith
+not-zero run.Write e = omega arith
+not-zero run.Memory e = omega arith
+
+of-two : (fault : RunFault) → status fault ≡ 2 → (x : ModelFault) × (fault ≡ run.Model x)
+of-two (run.Model x) e = (x, refl)
+of-two (run.Telemetry x) e = absurd (omega arith)
+of-two (run.Read slot) e = let four = read-status (slot == 0) in absurd (omega arith)
+of-two run.Write e = absurd (omega arith)
+of-two run.Memory e = absurd (omega arith)
+
+of-three : (fault : RunFault) → status fault ≡ 3 → (x : TelemFault) × (fault ≡ run.Telemetry x)
+of-three (run.Model x) e = absurd (omega arith)
+of-three (run.Telemetry x) e = (x, refl)
+of-three (run.Read slot) e = let four = read-status (slot == 0) in absurd (omega arith)
+of-three run.Write e = absurd (omega arith)
+of-three run.Memory e = absurd (omega arith)
+
+of-four : (fault : RunFault) → status fault ≡ 4 → (slot : ℕ) × (fault ≡ run.Read slot)
+of-four (run.Model x) e = absurd (omega arith)
+of-four (run.Telemetry x) e = absurd (omega arith)
+of-four (run.Read slot) e = (slot, refl)
+of-four run.Write e = absurd (omega arith)
+of-four run.Memory e = absurd (omega arith)
+
+of-five : (fault : RunFault) → status fault ≡ 5 → fault ≡ run.Write
+of-five (run.Model x) e = absurd (omega arith)
+of-five (run.Telemetry x) e = absurd (omega arith)
+of-five (run.Read slot) e = let four = read-status (slot == 0) in absurd (omega arith)
+of-five run.Write e = refl
+of-five run.Memory e = absurd (omega arith)
+
+not-refused : (o : Option ModelFault) → o ≡ None → IsSome o → ⊥
+not-refused None e s = cc
+not-refused (Some x) e s = cc
+
+if-some : (o : Option (List ℕ)) (P Q : List ℕ → Type 0) → ((m : List ℕ) → P m → Q m) → IfSome o P → IfSome o Q
+if-some None P Q f h = tt
+if-some (Some m) P Q f h = f m h
+
+module _ (model telemetry : List ℕ) (before after : Outside) where
+  -- a run that ended early
+  module _ (fault : RunFault) (says_model : OnFile before.shelf model (SaysOfModel (Err fault))) (says_files : OnFiles before.shelf model telemetry (SaysOfFiles (Err fault)))
+      (puts : OnFiles before.shelf model telemetry (λ f. PutsReport (report_of f) before.out (Err fault) after.out)) (nothing : PutsNothing before.out (Err fault) after.out)
+      (reads : (slot : ℕ) → fault ≡ run.Read slot → ReadsFailed model telemetry before.shelf after.shelf slot) (writes : fault ≡ run.Write → Rose before.out.faults after.out.faults)
+      (asks : AsksInOrder model telemetry (Err fault) after.shelf) (told : Tells (text_of (ending_of fault)) before.err after.err) where
+    refuses-model : OnFile before.shelf model (λ m. IsSome (model_refusal m) → ¬ Rose (before.shelf.slot 0).faults (after.shelf.slot 0).faults → (status fault ≡ 2) ⊎ (status fault ≡ 6))
+    refuses-model = if-some (before.shelf.file model) _ _ (by fault refl) says_model
+      where
+        unread-other : (slot : ℕ) (m : List ℕ) → ReadsFailed model telemetry before.shelf after.shelf slot → (slot ≢ 0 → model_refusal m ≡ None) → IsSome (model_refusal m)
+            → ¬ Rose (before.shelf.slot 0).faults (after.shelf.slot 0).faults → ⊥
+        unread-other slot m (inl h) says refused none = none h.1.rose
+        unread-other slot m (inr h) says refused none = not-refused (model_refusal m) (says (λ zero. let one = h.0 in omega arith)) refused
+
+        by : (g : RunFault) → fault ≡ g → (m : List ℕ) → SaysOfModel (Err fault) m → IsSome (model_refusal m) → ¬ Rose (before.shelf.slot 0).faults (after.shelf.slot 0).faults → (status fault ≡ 2) ⊎ (status fault ≡ 6)
+        by (run.Model x) e m says refused none = inl (ap status e)
+        by (run.Telemetry x) e m says refused none = absurd (not-refused (model_refusal m) (subst (λ g. SaysOfModel (Err g) m) e says) refused)
+        by (run.Read slot) e m says refused none = absurd (unread-other slot m (reads slot e) (subst (λ g. SaysOfModel (Err g) m) e says) refused none)
+        by run.Write e m says refused none = absurd (not-refused (model_refusal m) (subst (λ g. SaysOfModel (Err g) m) e says) refused)
+        by run.Memory e m says refused none = inr (ap status e)
+
+    pub ended : Monitors model telemetry before (status fault) after
+    ended = record {
+      status = run-status fault;
+      model_refused = λ e. let x = of-two fault e in
+          (x.0, subst (λ g. OnFile before.shelf model (SaysOfModel (Err g))) x.1 says_model, subst (λ g. Tells (text_of (ending_of g)) before.err after.err) x.1 told);
+      model_refuses = refuses-model;
+      telemetry_refused = λ e. let x = of-three fault e in
+          (x.0, subst (λ g. OnFiles before.shelf model telemetry (SaysOfFiles (Err g))) x.1 says_files, subst (λ g. Tells (text_of (ending_of g)) before.err after.err) x.1 told);
+      telemetry_refuses = refuses fault model telemetry before after says_model says_files reads writes;
+      read = λ e. let x = of-four fault e in
+          unread x.0 model telemetry before after (reads x.0 x.1) (subst (λ g. Tells (text_of (ending_of g)) before.err after.err) x.1 told)
+          (subst (λ g. PutsNothing before.out (Err g) after.out) x.1 nothing) (subst (λ g. AsksModelFirst (Err g) (after.shelf.slot 1).asked) x.1 asks.first);
+      write = λ e. writes (of-five fault e);
+      complete = complete fault model telemetry before after says_model says_files reads writes;
+      at_end = λ e. absurd (not-zero fault e);
+      asked_model = asks.asked_model;
+      asked_telemetry = asks.asked_telemetry;
+      asked_first = λ e. let x = of-two fault e in subst (λ g. AsksModelFirst (Err g) (after.shelf.slot 1).asked) x.1 asks.first;
+      asked_no_third = asks.no_third;
+      accepted = λ e. absurd (not-zero fault e);
+      report = reported;
+      front = all-front-of (before.shelf.file model) (before.shelf.file telemetry) before.out after.out (Err fault) puts;
+      nothing = λ e. let x = of-two fault e in subst (λ g. PutsNothing before.out (Err g) after.out) x.1 nothing;
+    }
+      where
+        reported : (status fault ≡ 0) ⊎ (status fault ≡ 3) → OnFiles before.shelf model telemetry (λ f. Gains (report_text f) before.out after.out)
+        reported (inl e) = absurd (not-zero fault e)
+        reported (inr e) = let x = of-three fault e in subst (λ g. OnFiles before.shelf model telemetry (λ f. PutsReport (report_of f) before.out (Err g) after.out)) x.1 puts
+
+  -- a run that came to the end of its telemetry
+  module _ (done : Done) (says_model : OnFile before.shelf model (λ m. model_refusal m ≡ None)) (says_files : OnFiles before.shelf model telemetry (λ f. RunsThrough f done.samples))
+      (puts : OnFiles before.shelf model telemetry (λ f. Gains (report_text f) before.out after.out)) (read : AreRead after.shelf) (asks : AsksInOrder model telemetry (Ok done) after.shelf) where
+    through-accepted : (f : Files) → RunsThrough f done.samples → IsAccepted f
+    through-accepted (bad_model x) h = h
+    through-accepted (bad_header x) h = h
+    through-accepted (monitored ms rows) h = h.0
+
+    not-refuses : (f : Files) → RunsThrough f done.samples → IsSome (telemetry_refusal f) → ⊥
+    not-refuses (bad_model x) h some = h
+    not-refuses (bad_header x) h some = h
+    not-refuses (monitored ms rows) h some = none rows.refusal h.0 some
+      where
+        none : (o : Option TelemFault) → o ≡ None → IsSome o → ⊥
+        none None e s = cc
+        none (Some x) e s = cc
+
+    on-both : (P Q : List ℕ → List ℕ → Type 0) → ((m t : List ℕ) → P m t → Q m t) → OnBytes (before.shelf.file model) (before.shelf.file telemetry) P → OnBytes (before.shelf.file model) (before.shelf.file telemetry) Q
+    on-both P Q f h = both-say (before.shelf.file model) (before.shelf.file telemetry) (λ m. model_refusal m ≡ None) P Q (λ m t _ p. f m t p) says_model h
+
+    pub came-to-the-end : Monitors model telemetry before 0 after
+    came-to-the-end = record {
+      status = inl refl;
+      model_refused = λ e. absurd (omega arith);
+      model_refuses = if-some (before.shelf.file model) _ _ (λ m none some _. absurd (not-refused (model_refusal m) none some)) says_model;
+      telemetry_refused = λ e. absurd (omega arith);
+      telemetry_refuses = on-both _ _ (λ m t h some _. absurd (not-refuses (files_of m t) h some)) says_files;
+      read = λ e. absurd (omega arith);
+      write = λ e. absurd (omega arith);
+      complete = on-both _ _ (λ m t h _ _. inl refl) says_files;
+      at_end = λ e. read;
+      asked_model = asks.asked_model;
+      asked_telemetry = asks.asked_telemetry;
+      asked_first = λ e. absurd (omega arith);
+      asked_no_third = asks.no_third;
+      accepted = λ e. on-both _ _ (λ m t h. through-accepted (files_of m t) h) says_files;
+      report = λ e. puts;
+      front = all-front-of (before.shelf.file model) (before.shelf.file telemetry) before.out after.out (Ok done) puts;
+      nothing = λ e. absurd (omega arith);
+    }
 
 -- ---- what the lines claim
 

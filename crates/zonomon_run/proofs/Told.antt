@@ -1,15 +1,12 @@
 -- What a sink got of a text, from what putting it answered.
-use Rattle.std.proofs.Common.{ℕ, List, Option, Result, Ok, Err, OnOk, OnErr, refl}
-use Rattle.std.specs.Io.KnownBytes.{Appends}
-use Rattle.outside_io.specs.Causes.{HasCause}
-use Rattle.outside_io.specs.Sink.{AppendsFront}
+use Rattle.std.proofs.Common.{List, ℕ, Result, Ok, Err, refl}
+use Rattle.outside_io.specs.Sink.{SinkState, PutsAll}
 use Rattle.outside_io.specs.declared.sink.PutFault.{PutFault}
 use Rattle.outside_io.specs.declared.sink.PutFault.TheVariants.{Failed, Memory}
 use Rattle.outside_io.proofs.Fronts.{all-front}
 use Rattle.zonomon_run.specs.Ending.{Tells}
 
-pub told : (r : Result Unit PutFault) (old new : Option (List ℕ)) (f f' w w' : ℕ) (text : List ℕ) → OnOk r (Appends old new text) → OnErr r (AppendsFront old new text)
-    → HasCause Failed f f' r → HasCause Memory w w' r → Tells old new f f' w w' text
-told (Ok x) old new f f' w w' text ok err failed memory = record { front = all-front old new text ok; whole = λ n m. ok }
-told (Err Failed) old new f f' w w' text ok err failed memory = record { front = err; whole = λ n m. absurd (n (failed.failed refl)) }
-told (Err Memory) old new f f' w w' text ok err failed memory = record { front = err; whole = λ n m. absurd (m (memory.failed refl)) }
+pub told : (r : Result Unit PutFault) (text : List ℕ) (before after : SinkState) → PutsAll text before r after → Tells text before after
+told (Ok x) text before after puts = record { front = all-front before.held after.held text puts.whole; whole = λ n m. puts.whole }
+told (Err Failed) text before after puts = record { front = puts.front; whole = λ n m. absurd (n (puts.failed.failed refl)) }
+told (Err Memory) text before after puts = record { front = puts.front; whole = λ n m. absurd (m (puts.memory.failed refl)) }

@@ -1,8 +1,7 @@
 -- How the program ends: its status, and what it puts to standard error.
-use Rattle.std.specs.Prelude.{ℕ, List, [], ◌∷◌, ◌++◌, codes, Option}
-use Rattle.std.specs.Io.KnownBytes.{Appends}
+use Rattle.std.specs.Prelude.{◌≡◌, ℕ, List, [], ◌∷◌, ◌++◌, codes}
 use Rattle.outside_io.specs.Causes.{Rose}
-use Rattle.outside_io.specs.Sink.{AppendsFront}
+use Rattle.outside_io.specs.Sink.{SinkState, Gains, GainsFront}
 use Rattle.model_file.specs.declared.fault.ModelFault.{ModelFault}
 use Rattle.telem_csv.specs.declared.fault.TelemFault.{TelemFault}
 use Rattle.refusal_text.specs.Model.{model_refusal}
@@ -48,6 +47,10 @@ text_of Memory = ended (codes "out of memory")
 text_of NotBuilt = ended (codes "not built")
 
 -- a sink got the text, or where it had a fault or wanted memory, a front of it
-pub record Tells (old new : Option (List ℕ)) (faults faults' wants wants' : ℕ) (text : List ℕ) : Type 0 where
-  pub front : AppendsFront old new text
-  pub whole : ¬ Rose faults faults' → ¬ Rose wants wants' → Appends old new text
+pub record Tells (text : List ℕ) (before after : SinkState) : Type 0 where
+  pub front : GainsFront text before after
+  pub whole : ¬ Rose before.faults after.faults → ¬ Rose before.wants after.wants → Gains text before after
+
+-- a sink was told an ending of this status
+abbrev pub TellsEnding : ℕ → SinkState → SinkState → Type 0
+TellsEnding status before after = (ending : Ending) × (status ≡ status_of ending) × Tells (text_of ending) before after

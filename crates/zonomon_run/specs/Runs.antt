@@ -1,15 +1,28 @@
 -- What a run does with files that the shelf tells.
-use Rattle.std.specs.Prelude.{◌≡◌, ◌⊎◌, ℕ, List, Option, Some, None, IfSome}
+use Rattle.std.specs.Prelude.{◌≡◌, ◌⊎◌, ℕ, List, Option, Some, None, IfSome, IsSome}
 use Rattle.outside_io.specs.Causes.{Rose}
+use Rattle.outside_io.specs.Shelf.{ShelfState}
+use Rattle.outside_io.specs.Sink.{SinkState, Gains, GainsFront}
 use Rattle.model_file.specs.declared.fault.ModelFault.{ModelFault}
 use Rattle.telem_csv.specs.declared.fault.TelemFault.{TelemFault}
 use Rattle.model_bank.specs.Bank.{plants_in}
+use Rattle.report_text.specs.Line.{lines_text}
 use Rattle.report_rules.specs.Claims.{HullsHold, ExclusionsHold, MissesTold, plant_at}
-use Rattle.monitor_run.specs.Files.{Files, bad_model, bad_header, monitored, files_of, model_refusal, telemetry_refusal, report_of_rows}
-use Rattle.monitor_run.specs.Outcome.{OnBytes, ReadFailed}
+use Rattle.monitor_run.specs.Files.{Files, bad_model, bad_header, monitored, model_refusal, telemetry_refusal, report_of, report_of_rows}
+use Rattle.monitor_run.specs.Outcome.{OnFile, OnFiles, AreRead, ReadFailed}
+use Rattle.monitor_run.specs.Whole.{IsAskedAtMost}
 use Rattle.zonomon_run.specs.Words.{asked_by, monitor, helps, later, faulty}
-use Rattle.zonomon_run.specs.declared.ending.Ending.{Ending}
+use Rattle.zonomon_run.specs.Ending.{Tells, text_of, usage_lines, model_refusal_text, telemetry_refusal_text}
 use Rattle.zonomon_run.specs.declared.ending.Ending.TheVariants.{ReadModel, ReadTelemetry}
+
+-- what the program can see and change: its files, its output and its standard error
+pub record Outside : Type 0 where
+  pub shelf : ShelfState
+  pub out : SinkState
+  pub err : SinkState
+
+abbrev pub outside : ShelfState → SinkState → SinkState → Outside
+outside shelf out err = record { shelf = shelf; out = out; err = err }
 
 -- what the words `run` name
 abbrev pub OnRun : List (List ℕ) → (List ℕ → List ℕ → Type 0) → Type 0
@@ -19,13 +32,21 @@ OnRun words claim = (model telemetry : List ℕ) → asked_by words ≡ monitor 
 abbrev pub NamesNoFile : List (List ℕ) → Type 0
 NamesNoFile words = (asked_by words ≡ helps) ⊎ ((asked_by words ≡ faulty) ⊎ (asked_by words ≡ later))
 
--- a claim on the model file that the words `run` name, where the shelf tells it
-abbrev pub OnModel : List (List ℕ) → (List ℕ → Option (List ℕ)) → (List ℕ → Type 0) → Type 0
-OnModel words file claim = OnRun words (λ model telemetry. IfSome (file model) claim)
-
 -- a claim on what the files say that the words `run` name, where the shelf tells them
-abbrev pub OnFiles : List (List ℕ) → (List ℕ → Option (List ℕ)) → (Files → Type 0) → Type 0
-OnFiles words file claim = OnRun words (λ model telemetry. OnBytes (file model) (file telemetry) (λ m t. claim (files_of m t)))
+abbrev pub OnNamed : List (List ℕ) → ShelfState → (Files → Type 0) → Type 0
+OnNamed words shelf claim = OnRun words (λ model telemetry. OnFiles shelf model telemetry claim)
+
+-- the bytes of the report of files that say this
+abbrev pub report_text : Files → List ℕ
+report_text files = lines_text (report_of files)
+
+-- the output gained the report of files that say this
+abbrev pub GainsReport : SinkState → SinkState → Files → Type 0
+GainsReport before after files = Gains (report_text files) before after
+
+-- the output gained a front of the report of files that say this
+abbrev pub GainsReportFront : SinkState → SinkState → Files → Type 0
+GainsReportFront before after files = GainsFront (report_text files) before after
 
 -- no file is refused
 abbrev pub IsAccepted : Files → Type 0
@@ -33,16 +54,23 @@ IsAccepted (bad_model fault) = ⊥
 IsAccepted (bad_header fault) = ⊥
 IsAccepted (monitored ms rows) = rows.refusal ≡ None
 
--- the reading of slot 0 failed before anything was put, or that of slot 1, and that was told
-abbrev pub ReadsFailed : (before now : ℕ → ℕ) → (asked : ℕ → Option (List ℕ)) → (held held' : Option (List ℕ)) → (Ending → Type 0) → (model telemetry : List ℕ) → Type 0
-ReadsFailed before now asked held held' told model telemetry =
-    (ReadFailed (before 0) (now 0) (asked 0) model × told ReadModel × (held' ≡ held)) ⊎ (ReadFailed (before 1) (now 1) (asked 1) telemetry × told ReadTelemetry)
+-- the model file could not be read, which was told; nothing was put, and the telemetry was asked for no name
+pub record ModelUnread (model : List ℕ) (before after : Outside) : Type 0 where
+  pub failed : ReadFailed model (before.shelf.slot 0) (after.shelf.slot 0)
+  pub told : Tells (text_of ReadModel) before.err after.err
+  pub nothing : after.out.held ≡ before.out.held
+  pub asked_first : (after.shelf.slot 1).asked ≡ None
+
+-- the telemetry could not be read, which was told
+pub record TelemetryUnread (telemetry : List ℕ) (before after : Outside) : Type 0 where
+  pub failed : ReadFailed telemetry (before.shelf.slot 1) (after.shelf.slot 1)
+  pub told : Tells (text_of ReadTelemetry) before.err after.err
 
 -- no count of faults rose, of slots 0 and 1 and of the output
-pub record NoneRose (before now : ℕ → ℕ) (out out' : ℕ) : Type 0 where
-  pub model : ¬ Rose (before 0) (now 0)
-  pub telemetry : ¬ Rose (before 1) (now 1)
-  pub output : ¬ Rose out out'
+pub record NoneRose (before after : Outside) : Type 0 where
+  pub model : ¬ Rose (before.shelf.slot 0).faults (after.shelf.slot 0).faults
+  pub telemetry : ¬ Rose (before.shelf.slot 1).faults (after.shelf.slot 1).faults
+  pub output : ¬ Rose before.out.faults after.out.faults
 
 -- the statuses of a run
 abbrev pub IsRunStatus : ℕ → Type 0
@@ -56,13 +84,44 @@ IsStatus n = IsRunStatus n ⊎ ((n ≡ 1) ⊎ (n ≡ 8))
 abbrev pub IsHelpStatus : ℕ → Type 0
 IsHelpStatus n = (n ≡ 0) ⊎ ((n ≡ 5) ⊎ (n ≡ 6))
 
--- the model file is refused with this fault, and that was told
-abbrev pub IsModelRefused : (ModelFault → Type 0) → Option (List ℕ) → Type 0
-IsModelRefused told model = (fault : ModelFault) × IfSome model (λ m. model_refusal m ≡ Some fault) × told fault
+-- the model file is refused with a fault, and that was told
+abbrev pub ModelRefused : List ℕ → Outside → Outside → Type 0
+ModelRefused model before after =
+    (fault : ModelFault) × OnFile before.shelf model (λ m. model_refusal m ≡ Some fault) × Tells (model_refusal_text fault) before.err after.err
 
--- the telemetry is refused with this fault, and that was told
-abbrev pub IsTelemetryRefused : (TelemFault → Type 0) → (model telemetry : Option (List ℕ)) → Type 0
-IsTelemetryRefused told model telemetry = (fault : TelemFault) × OnBytes model telemetry (λ m t. telemetry_refusal (files_of m t) ≡ Some fault) × told fault
+-- the telemetry is refused with a fault, and that was told
+abbrev pub TelemetryRefused : (model telemetry : List ℕ) → Outside → Outside → Type 0
+TelemetryRefused model telemetry before after =
+    (fault : TelemFault) × OnFiles before.shelf model telemetry (λ f. telemetry_refusal f ≡ Some fault) × Tells (telemetry_refusal_text fault) before.err after.err
+
+-- what the words `run MODEL TELEMETRY` do. Status 6 is want of memory
+pub record Monitors (model telemetry : List ℕ) (before : Outside) (result : ℕ) (after : Outside) : Type 0 where
+  pub status : IsRunStatus result
+  pub model_refused : result ≡ 2 → ModelRefused model before after
+  pub model_refuses : OnFile before.shelf model (λ m. IsSome (model_refusal m)
+      → ¬ Rose (before.shelf.slot 0).faults (after.shelf.slot 0).faults → (result ≡ 2) ⊎ (result ≡ 6))
+  pub telemetry_refused : result ≡ 3 → TelemetryRefused model telemetry before after
+  pub telemetry_refuses : OnFiles before.shelf model telemetry (λ f. IsSome (telemetry_refusal f) → NoneRose before after → (result ≡ 3) ⊎ (result ≡ 6))
+  pub read : result ≡ 4 → ModelUnread model before after ⊎ TelemetryUnread telemetry before after
+  pub write : result ≡ 5 → Rose before.out.faults after.out.faults
+  pub complete : OnFiles before.shelf model telemetry (λ f. IsAccepted f → NoneRose before after → (result ≡ 0) ⊎ (result ≡ 6))
+  pub at_end : result ≡ 0 → AreRead after.shelf
+  pub asked_model : IsAskedAtMost model (after.shelf.slot 0)
+  pub asked_telemetry : IsAskedAtMost telemetry (after.shelf.slot 1)
+  pub asked_first : result ≡ 2 → (after.shelf.slot 1).asked ≡ None
+  pub asked_no_third : (after.shelf.slot 2).asked ≡ None
+  pub accepted : result ≡ 0 → OnFiles before.shelf model telemetry IsAccepted
+  pub report : (result ≡ 0) ⊎ (result ≡ 3) → OnFiles before.shelf model telemetry (GainsReport before.out after.out)
+  pub front : OnFiles before.shelf model telemetry (GainsReportFront before.out after.out)
+  pub nothing : result ≡ 2 → after.out.held ≡ before.out.held
+
+-- what the word `help` does
+pub record Helps (before : SinkState) (result : ℕ) (after : SinkState) : Type 0 where
+  pub status : IsHelpStatus result
+  pub whole : result ≡ 0 → Gains usage_lines before after
+  pub front : GainsFront usage_lines before after
+  pub write : result ≡ 5 → Rose before.faults after.faults
+  pub memory : result ≡ 6 → Rose before.wants after.wants
 
 -- ---- what the printed lines claim
 

@@ -1,8 +1,6 @@
 //! How the program ends, and what it says of it.
-ghost use Rattle.std.specs.Prelude.{◌≡◌, OnOk, OnErr};
-ghost use Rattle.std.specs.Io.KnownBytes.{Appends};
-ghost use Rattle.outside_io.specs.Causes.{HasCause};
-ghost use Rattle.outside_io.specs.Sink.{AppendsFront};
+ghost use Rattle.std.specs.Prelude.{◌≡◌};
+ghost use Rattle.outside_io.specs.Sink.{PutsAll};
 ghost use Rattle.zonomon_run.specs.Endings.{ending_of};
 ghost use Rattle.zonomon_run.specs.Ending.{status_of, text_of, usage_lines, model_refusal_text, telemetry_refusal_text, Tells};
 
@@ -61,7 +59,7 @@ pub fn usage() -> &'static [u8]
 /// Puts the line of an ending to `err`, and gives its status. A fault of `err` changes no status.
 pub fn tell<E: Sink>(err: &mut E, ending: Ending) -> u8
     ensures status { result ≡ status_of ending }
-    ensures told { Tells (E.held err.old) (E.held err.new) (E.faults err.old) (E.faults err.new) (E.wants err.old) (E.wants err.new) (text_of ending) }
+    ensures told { Tells (text_of ending) (E.state err.old) (E.state err.new) }
 {
     let _ = put_ending(err, &ending);
     status(&ending)
@@ -69,10 +67,7 @@ pub fn tell<E: Sink>(err: &mut E, ending: Ending) -> u8
 
 /// Puts the line of an ending.
 fn put_ending<E: Sink>(err: &mut E, ending: &Ending) -> Result<(), PutFault>
-    ensures ok { OnOk result (Appends (E.held err.old) (E.held err.new) (text_of ending.now)) }
-    ensures err { OnErr result (AppendsFront (E.held err.old) (E.held err.new) (text_of ending.now)) }
-    ensures failed { HasCause PutFault.Failed (E.faults err.old) (E.faults err.new) result }
-    ensures memory { HasCause PutFault.Memory (E.wants err.old) (E.wants err.new) result }
+    ensures { PutsAll (text_of ending.now) (E.state err.old) result (E.state err.new) }
 {
     match ending {
         Ending::Model(fault) => put_model_refusal(err, fault),
@@ -88,10 +83,7 @@ fn put_ending<E: Sink>(err: &mut E, ending: &Ending) -> Result<(), PutFault>
 
 /// Puts the line that says why a model file is refused.
 fn put_model_refusal<E: Sink>(err: &mut E, fault: &ModelFault) -> Result<(), PutFault>
-    ensures ok { OnOk result (Appends (E.held err.old) (E.held err.new) (model_refusal_text fault.now)) }
-    ensures err { OnErr result (AppendsFront (E.held err.old) (E.held err.new) (model_refusal_text fault.now)) }
-    ensures failed { HasCause PutFault.Failed (E.faults err.old) (E.faults err.new) result }
-    ensures memory { HasCause PutFault.Memory (E.wants err.old) (E.wants err.new) result }
+    ensures { PutsAll (model_refusal_text fault.now) (E.state err.old) result (E.state err.new) }
 {
     let mut line = model_refusal(fault);
     line.push(b'\n');
@@ -100,10 +92,7 @@ fn put_model_refusal<E: Sink>(err: &mut E, fault: &ModelFault) -> Result<(), Put
 
 /// Puts the line that says why a telemetry is refused.
 fn put_telemetry_refusal<E: Sink>(err: &mut E, fault: &TelemFault) -> Result<(), PutFault>
-    ensures ok { OnOk result (Appends (E.held err.old) (E.held err.new) (telemetry_refusal_text fault.now)) }
-    ensures err { OnErr result (AppendsFront (E.held err.old) (E.held err.new) (telemetry_refusal_text fault.now)) }
-    ensures failed { HasCause PutFault.Failed (E.faults err.old) (E.faults err.new) result }
-    ensures memory { HasCause PutFault.Memory (E.wants err.old) (E.wants err.new) result }
+    ensures { PutsAll (telemetry_refusal_text fault.now) (E.state err.old) result (E.state err.new) }
 {
     let mut line = telemetry_refusal(fault, MOST_TELEMETRY);
     line.push(b'\n');

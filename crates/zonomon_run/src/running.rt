@@ -1,15 +1,11 @@
 //! The top call.
-ghost use Rattle.std.specs.Prelude.{◌≡◌, ◌≢◌, ◌⊎◌, ◌↔◌, ℕ, None, IsSome};
-ghost use Rattle.std.specs.Io.KnownBytes.{IsAtEnd, Appends};
+ghost use Rattle.std.specs.Prelude.{◌≡◌, ◌≢◌, ◌⊎◌, ◌↔◌, None};
 ghost use Rattle.outside_io.specs.Causes.{Rose};
 ghost use Rattle.outside_io.specs.Shelf.{IsFresh};
-ghost use Rattle.outside_io.specs.Sink.{AppendsFront};
-ghost use Rattle.report_text.specs.Line.{lines_text};
-ghost use Rattle.monitor_run.specs.Files.{model_refusal, telemetry_refusal, report_of};
-ghost use Rattle.monitor_run.specs.Whole.{IsAskedAtMost};
 ghost use Rattle.zonomon_run.specs.Words.{asked_by, texts, faulty, helps, later};
-ghost use Rattle.zonomon_run.specs.Ending.{status_of, text_of, usage_lines, model_refusal_text, telemetry_refusal_text, Tells};
-ghost use Rattle.zonomon_run.specs.Runs.{IsAccepted, IsHelpStatus, NamesNoFile, IsModelRefused, IsTelemetryRefused, IsStatus, OnModel, OnFiles, OnRun, ReadsFailed, NoneRose, TrueHulls, TrueExclusions, TrueMisses};
+ghost use Rattle.zonomon_run.specs.Ending.{TellsEnding};
+ghost use Rattle.zonomon_run.specs.Runs.{Helps, IsStatus, Monitors, NamesNoFile, OnNamed, OnRun, outside};
+ghost use Rattle.zonomon_run.specs.Runs.{IsAccepted, GainsReport, GainsReportFront, TrueHulls, TrueExclusions, TrueMisses};
 
 use crate::ending::{Ending, tell};
 use crate::files::run_files;
@@ -18,8 +14,8 @@ use crate::words::{Command, command_of};
 use outside_io::{Shelf, Sink};
 use std::alloc::Global;
 
-/// Does all that the program does, and answers its status. The words are those after the program's name; slot 0 of the shelf reads the model file, slot 1 the
-/// telemetry. The report goes to `out`, and the line of a status other than 0 to `err`.
+/// Does all that the program does, and answers its status. The words are those after the program's name; slot 0 of the shelf reads
+/// the model file, slot 1 the telemetry. The report goes to `out`, and the line of a status other than 0 to `err`.
 pub fn run<F: Shelf, O: Sink, E: Sink>(
     alloc: Global,
     words: &[String],
@@ -27,46 +23,38 @@ pub fn run<F: Shelf, O: Sink, E: Sink>(
     out: &mut O,
     err: &mut E,
 ) -> u8
-    requires fresh { IsFresh (F.asked shelf.old) }
+    requires fresh { IsFresh (F.state shelf.old) }
 
-    // The status, and when each comes. Status 6 is want of memory.
+    // The status, and what each form of the words does.
     ensures status { IsStatus result }
     ensures usage { (result ≡ 1) ↔ (asked_by (texts words.now) ≡ faulty) }
-    ensures help { asked_by (texts words.now) ≡ helps → IsHelpStatus result }
     ensures later { (result ≡ 8) ↔ (asked_by (texts words.now) ≡ later) }
-    ensures model_refused { result ≡ 2 → OnRun (texts words.now) (λ model telemetry. IsModelRefused (λ fault. Tells (E.held err.old) (E.held err.new) (E.faults err.old) (E.faults err.new) (E.wants err.old) (E.wants err.new) (model_refusal_text fault)) (F.file shelf.old model)) }
-    ensures model_refuses { OnModel (texts words.now) (F.file shelf.old) (λ m. IsSome (model_refusal m) → ¬ Rose (F.faults shelf.old 0) (F.faults shelf.new 0) → (result ≡ 2) ⊎ (result ≡ 6)) }
-    ensures telemetry_refused { result ≡ 3 → OnRun (texts words.now) (λ model telemetry. IsTelemetryRefused (λ fault. Tells (E.held err.old) (E.held err.new) (E.faults err.old) (E.faults err.new) (E.wants err.old) (E.wants err.new) (telemetry_refusal_text fault)) (F.file shelf.old model) (F.file shelf.old telemetry)) }
-    ensures telemetry_refuses { OnFiles (texts words.now) (F.file shelf.old) (λ f. IsSome (telemetry_refusal f) → NoneRose (F.faults shelf.old) (F.faults shelf.new) (O.faults out.old) (O.faults out.new) → (result ≡ 3) ⊎ (result ≡ 6)) }
-    ensures read { result ≡ 4 → OnRun (texts words.now) (ReadsFailed (F.faults shelf.old) (F.faults shelf.new) (F.asked shelf.new) (O.held out.old) (O.held out.new) (λ ending. Tells (E.held err.old) (E.held err.new) (E.faults err.old) (E.faults err.new) (E.wants err.old) (E.wants err.new) (text_of ending))) }
-    ensures write { result ≡ 5 → Rose (O.faults out.old) (O.faults out.new) }
-    ensures complete { OnFiles (texts words.now) (F.file shelf.old) (λ f. IsAccepted f → NoneRose (F.faults shelf.old) (F.faults shelf.new) (O.faults out.old) (O.faults out.new) → (result ≡ 0) ⊎ (result ≡ 6)) }
+    ensures helps { asked_by (texts words.now) ≡ helps → Helps (O.state out.old) result (O.state out.new) }
+    ensures monitors { OnRun (texts words.now) (λ model telemetry. Monitors model telemetry
+        (outside (F.state shelf.old) (O.state out.old) (E.state err.old)) result
+        (outside (F.state shelf.new) (O.state out.new) (E.state err.new))) }
+    ensures write { result ≡ 5 → Rose (O.state out.old).faults (O.state out.new).faults }
 
-    // What was read: at status 0 all of both files, and never another.
-    ensures model_end { OnRun (texts words.now) (λ _ _. result ≡ 0 → IsAtEnd (F.rest shelf.new 0)) }
-    ensures telemetry_end { OnRun (texts words.now) (λ _ _. result ≡ 0 → IsAtEnd (F.rest shelf.new 1)) }
-    ensures asked { OnRun (texts words.now) (λ model telemetry. IsAskedAtMost (F.asked shelf.new 0) model × IsAskedAtMost (F.asked shelf.new 1) telemetry) }
-    ensures asked_first { result ≡ 2 → F.asked shelf.new 1 ≡ None }
-    ensures asked_no_third { F.asked shelf.new 2 ≡ None }
-    ensures asked_nothing { NamesNoFile (texts words.now) → IsFresh (F.asked shelf.new) }
-
-    // What was put to `out`: the whole report or the help at status 0; at 3 the report up to the refused row; at 4, 5 and 6 a front of it; and else nothing.
-    ensures helped { asked_by (texts words.now) ≡ helps → result ≡ 0 → Appends (O.held out.old) (O.held out.new) usage_lines }
-    ensures help_memory { asked_by (texts words.now) ≡ helps → result ≡ 6 → Rose (O.wants out.old) (O.wants out.new) }
-    ensures help_front { asked_by (texts words.now) ≡ helps → AppendsFront (O.held out.old) (O.held out.new) usage_lines }
-    ensures accepted { result ≡ 0 → OnFiles (texts words.now) (F.file shelf.old) IsAccepted }
-    ensures report { (result ≡ 0) ⊎ (result ≡ 3) → OnFiles (texts words.now) (F.file shelf.old) (λ f. Appends (O.held out.old) (O.held out.new) (lines_text (report_of f))) }
-    ensures front { OnFiles (texts words.now) (F.file shelf.old) (λ f. AppendsFront (O.held out.old) (O.held out.new) (lines_text (report_of f))) }
-    ensures nothing { (result ≡ 1) ⊎ ((result ≡ 2) ⊎ (result ≡ 8)) → O.held out.new ≡ O.held out.old }
+    // What was put to `out`: the report at status 0; at 3 the report up to the refused row; at 4, 5 and 6 a front of it; and else nothing.
+    ensures accepted { result ≡ 0 → OnNamed (texts words.now) (F.state shelf.old) IsAccepted }
+    ensures report { (result ≡ 0) ⊎ (result ≡ 3)
+        → OnNamed (texts words.now) (F.state shelf.old) (GainsReport (O.state out.old) (O.state out.new)) }
+    ensures front { OnNamed (texts words.now) (F.state shelf.old) (GainsReportFront (O.state out.old) (O.state out.new)) }
+    ensures nothing { (result ≡ 1) ⊎ ((result ≡ 2) ⊎ (result ≡ 8)) → (O.state out.new).held ≡ (O.state out.old).held }
 
     // What the report's lines claim of the trajectories of the models.
-    ensures hull { OnFiles (texts words.now) (F.file shelf.old) TrueHulls }
-    ensures exclusion { OnFiles (texts words.now) (F.file shelf.old) TrueExclusions }
-    ensures miss { OnFiles (texts words.now) (F.file shelf.old) TrueMisses }
+    ensures hull { OnNamed (texts words.now) (F.state shelf.old) TrueHulls }
+    ensures exclusion { OnNamed (texts words.now) (F.state shelf.old) TrueExclusions }
+    ensures miss { OnNamed (texts words.now) (F.state shelf.old) TrueMisses }
+
+    // Which files were asked for: none by words that name none, no third one, and no telemetry where the model file is refused.
+    ensures asked_nothing { NamesNoFile (texts words.now) → IsFresh (F.state shelf.new) }
+    ensures asked_no_third { ((F.state shelf.new).slot 2).asked ≡ None }
+    ensures asked_first { result ≡ 2 → ((F.state shelf.new).slot 1).asked ≡ None }
 
     // What was put to `err`: nothing at status 0, and else the line of how the program ended.
-    ensures silent { result ≡ 0 → E.held err.new ≡ E.held err.old }
-    ensures told { result ≢ 0 → (ending : Ending) × (result ≡ status_of ending) × Tells (E.held err.old) (E.held err.new) (E.faults err.old) (E.faults err.new) (E.wants err.old) (E.wants err.new) (text_of ending) }
+    ensures silent { result ≡ 0 → (E.state err.new).held ≡ (E.state err.old).held }
+    ensures told { result ≢ 0 → TellsEnding result (E.state err.old) (E.state err.new) }
 {
     match command_of(words) {
         Command::Faulty => tell(err, Ending::Usage),

@@ -2,12 +2,12 @@ use Rattle.std.proofs.Common.{◌≡◌, ℕ, ◌+◌, ◌<◌, List, [], ◌∷
 use Rattle.std.specs.List.{enumerate_from}
 use Rattle.std.proofs.lemmas.List.{length-map}
 use Rattle.std.proofs.Math.ListN.{get_or-map}
-use Rattle.outside_io.proofs.Fronts.{of-err}
+use Rattle.std.proofs.lemmas.Result.{err_from_is_err_and}
 use Rattle.report_text.specs.Line.{title, model}
 use Rattle.report_rules.specs.Lines.{head_lines}
 use Rattle.model_file.specs.Bank.{Named, Models, no_model}
 use Rattle.model_bank.specs.Bank.{names_in}
-use Rattle.monitor_run.proofs.Put.{more-put, before-front, turn-front, numbered-more, numbered-rest}
+use Rattle.monitor_run.proofs.Put.{has-more, cut-first, cut-turn, numbered-more, numbered-rest}
 use Rattle.monitor_run.proofs.lines.put_head.Goals as goal
 
 module _ (m : Models) (i : ℕ) (name : List ℕ) (h : i < length m.models) (is : name ≡ (get_or m.models i no_model).name) where
@@ -27,20 +27,17 @@ pub loop-i-preserved : goal.loop-i-preserved
 loop-i-preserved g c =
     let m = c.args.models.now in
     let i = c.loop-i.i in
-    record {
-      appended = more-put _ _ _ (head_lines (take i (names_in m))) _ _ (name-more m i c.name.result.now (omega arith) c.name.ensures.value) c.loop-i.invariant.appended c.in_ok-put_name.ensures.ok;
-      faults = omega arith;
-      wants = omega arith;
-    }
+    has-more (head_lines (take i (names_in m))) _ _ (name-more m i c.name.result.now (omega arith) c.name.ensures.value) c.loop-i.invariant c.in_ok-put_name.ensures
 
-pub returns-in_err-put_name-clause-err : goal.returns-in_err-put_name-clause-err
-returns-in_err-put_name-clause-err g c =
+pub returns-in_err-put_name : goal.returns-in_err-put_name
+returns-in_err-put_name g c =
     let m = c.args.models.now in
     let i = c.loop-i.i in
-    of-err c.from_residual-in_err-put_name.result _
-    (turn-front _ _ _ (head_lines (take i (names_in m))) _ _ _ _ (name-more m i c.name.result.now (omega arith) c.name.ensures.value) (head-rest (names_in m) (i + 1))
-    c.loop-i.invariant.appended c.in_err-put_name.ensures.err)
+    let p = err_from_is_err_and c.from_residual-in_err-put_name.result c.from_residual-in_err-put_name.ensures.1 in
+    rw (p.1, p.2)
+    (cut-turn (head_lines (take i (names_in m))) _ _ (name-more m i c.name.result.now (omega arith) c.name.ensures.value) c.loop-i.invariant _ _ (head-rest (names_in m) (i + 1)) c.in_err-put_name.ensures)
 
-pub returns-in_err-put_line-clause-err : goal.returns-in_err-put_line-clause-err
-returns-in_err-put_line-clause-err g c =
-    of-err c.from_residual.result _ (before-front _ _ (title ∷ []) _ (head_lines (names_in c.args.models.now)) refl c.in_err-put_line.ensures.err)
+pub returns-in_err-put_line : goal.returns-in_err-put_line
+returns-in_err-put_line g c =
+    let p = err_from_is_err_and c.from_residual.result c.from_residual.ensures.1 in
+    rw (p.1, p.2) (cut-first (title ∷ []) _ (head_lines (names_in c.args.models.now)) refl c.in_err-put_line.ensures)

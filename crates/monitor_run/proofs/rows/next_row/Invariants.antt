@@ -1,17 +1,16 @@
-use Rattle.std.proofs.Common.{◌≡◌, ◌≤◌, ℕ, List, ◌++◌, false}
+use Rattle.std.proofs.Common.{◌≡◌, ◌≤◌, false}
 use Rattle.telem_csv.specs.Cutter.{current, rows_owed}
 use Rattle.telem_csv.specs.Fed.{is_refusal}
-use Rattle.monitor_run.specs.Left.{left_of}
-use Rattle.monitor_run.specs.Stream.{BothTold, ReadsOn}
+use Rattle.monitor_run.specs.Stream.{OnUnread, ReadsOn}
 use Rattle.monitor_run.proofs.rows.next_row.Given as goal
 
 abbrev pub invariant-lines : goal.invariant-lines
 invariant-lines g l = record {
   going : is_refusal l.stream.cutter.last ≡ false;
-  same : BothTold (g.F.Shelf.rest l.fn.shelf 1) (g.F.Shelf.rest l.shelf 1) (λ r r'. rows_owed l.head l.fn.stream.cutter (left_of l.fn.stream ++ r) ≡ rows_owed l.head l.stream.cutter (left_of l.stream ++ r'));
+  same : OnUnread 1 l.fn.stream (g.F.Shelf.state l.fn.shelf) l.stream (g.F.Shelf.state l.shelf)
+      (λ u u'. rows_owed l.head l.fn.stream.cutter u ≡ rows_owed l.head l.stream.cutter u');
   room : (current l.stream.cutter).room ≤ (current l.fn.stream.cutter).room;
-  kept : ReadsOn (g.F.Shelf.attached l.fn.shelf) (g.F.Shelf.attached l.shelf) (g.F.Shelf.asked l.fn.shelf) (g.F.Shelf.asked l.shelf) (g.F.Shelf.rest l.fn.shelf) (g.F.Shelf.rest l.shelf) (g.F.Shelf.faults l.fn.shelf) (g.F.Shelf.faults l.shelf);
-  files : (n : List ℕ) → g.F.Shelf.file l.shelf n ≡ g.F.Shelf.file l.fn.shelf n;
+  kept : ReadsOn 1 (g.F.Shelf.state l.fn.shelf) (g.F.Shelf.state l.shelf);
 }
 
 abbrev pub decreases-lines : goal.decreases-lines
