@@ -3,3 +3,4 @@ pub mod Seen
 pub mod Bank
 pub mod Steps
 pub mod Members
+pub mod Stepping

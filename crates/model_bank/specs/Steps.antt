@@ -1,5 +1,5 @@
 -- What a sample makes of the members of a bank, from what they hold. `u` are the inputs of the sample before, of which the first sample has none.
-use Rattle.std.specs.Prelude.{ℕ, ◌+◌, ℤ, Bool, false, List, [], ◌∷◌, Option, option_map, is_none, if◌then◌else◌}
+use Rattle.std.specs.Prelude.{ℕ, ◌+◌, ℤ, Bool, false, List, [], ◌∷◌, Option, Some, None, option_map, is_none, if◌then◌else◌}
 use Rattle.farkas_check.specs.Certificate.{Certificate, by_out}
 use Rattle.set_rules.specs.Zono.{Zono}
 use Rattle.plant_model.specs.Plant.{Plant, Sample}
@@ -33,6 +33,10 @@ answer_on p s z is_widened = record {
 -- the answer on a live member
 abbrev pub answer_of : Bool → List ℤ → Sample → Member → Answer
 answer_of is_first u s m = answer_on m.plant s (set_ahead is_first u m.plant m.estimate.plain) (widens is_first u m.plant m.estimate.plain)
+
+-- what is told of model i where it is live
+abbrev pub told_of : Bool → List ℤ → Sample → ℕ → Member → Option ModelAnswer
+told_of is_first u s i m = if m.live then Some (record { index = i; answer = answer_of is_first u s m }) else None
 
 -- the set after the sample where z is the predicted set: it takes the readings where no certificate is due
 unfoldable pub set_on : Plant → Sample → Zono → Zono

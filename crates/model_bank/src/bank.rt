@@ -13,6 +13,7 @@ use crate::{ModelRec, SampleRec};
 use arrayvec::ArrayVec;
 use isolate_core::judge;
 use model_file::{Bank0, NamedPlant};
+use observer_step::Room;
 use plant_model::Sample;
 use std::alloc::{AllocError, Global};
 use std::marker::Model;
@@ -25,6 +26,8 @@ pub struct Bank {
     members: Vec<Member>,
     count: u64,
     last: ArrayVec<i128, 4>,
+    /// Lent to each model in turn; no part of the bank's value.
+    room: Room,
 }
 
 impl Model for Bank {
@@ -40,6 +43,7 @@ impl Model for Bank {
 impl Bank {
     ghost use Rattle.model_bank.specs.Bank.{BankStands, plants_in};
     ghost use Rattle.model_bank.specs.Seen.{sample_seen};
+    ghost use Rattle.model_bank.specs.Stepping.{RecordsSample, StandsLonger};
 
     /// The bank before the first sample. Takes all the memory that a bank needs; the error is want of it.
     pub fn begin(alloc: Global, models: Bank0) -> Result<Bank, AllocError>
@@ -57,6 +61,7 @@ impl Bank {
             members,
             count: 0,
             last: ArrayVec::new(),
+            room: Room::new(),
         })
     }
 
@@ -72,8 +77,8 @@ impl Bank {
         requires inputs { length sample.now.u.items ≡ self.old.inputs }
         requires outputs { length sample.now.y.items ≡ self.old.outputs }
         requires counted { self.old.count < 2 ^ 63 }
-        ensures record { (plants : List Plant) (samples : List TheSample) → BankStands plants samples self.old → sample_seen result ≡ sample_answer zonotope_observer plants (samples ++ sample_of sample.now ∷ []) (length samples) }
-        ensures stands { (plants : List Plant) (samples : List TheSample) → BankStands plants samples self.old → BankStands plants (samples ++ sample_of sample.now ∷ []) self.new }
+        ensures record { RecordsSample (sample_of sample.now) self.old (sample_seen result) }
+        ensures stands { StandsLonger (sample_of sample.now) self.old self.new }
         ensures inputs { self.new.inputs ≡ self.old.inputs }
         ensures outputs { self.new.outputs ≡ self.old.outputs }
         ensures count { self.new.count ≡ self.old.count + 1 }
@@ -89,8 +94,8 @@ impl Bank {
         requires inputs { length sample.now.u.items ≡ self.old.inputs }
         requires outputs { length sample.now.y.items ≡ self.old.outputs }
         requires counted { self.old.count < 2 ^ 63 }
-        ensures record { (plants : List Plant) (samples : List TheSample) → BankStands plants samples self.old → sample_seen record.new ≡ sample_answer zonotope_observer plants (samples ++ sample_of sample.now ∷ []) (length samples) }
-        ensures stands { (plants : List Plant) (samples : List TheSample) → BankStands plants samples self.old → BankStands plants (samples ++ sample_of sample.now ∷ []) self.new }
+        ensures record { RecordsSample (sample_of sample.now) self.old (sample_seen record.new) }
+        ensures stands { StandsLonger (sample_of sample.now) self.old self.new }
         ensures inputs { self.new.inputs ≡ self.old.inputs }
         ensures outputs { self.new.outputs ≡ self.old.outputs }
         ensures count { self.new.count ≡ self.old.count + 1 }
@@ -102,6 +107,7 @@ impl Bank {
             self.count == 0,
             &self.last,
             sample,
+            &mut self.room,
             &mut record.models,
         );
         tell_possible(&self.members, &mut record.possible);
@@ -134,6 +140,7 @@ fn take_all(
     is_first: bool,
     last: &ArrayVec<i128, 4>,
     sample: &Sample,
+    room: &mut Room,
     models: &mut ArrayVec<ModelRec, 16>,
 )
     requires few { length members.old ≤ 16 }
@@ -146,7 +153,7 @@ fn take_all(
     models.clear();
     for i in 0..members.len() {
         let member = &mut members[i];
-        if let Some(model) = member.take(i as u32, is_first, last, sample) {
+        if let Some(model) = member.take(i as u32, is_first, last, sample, room) {
             models.push(model);
         }
     }

@@ -9,11 +9,11 @@ ghost use Rattle.observer_step.specs.Predicted.{hulls as hulls_of};
 ghost use Rattle.observer_step.specs.Seen.{was_widened, certificate_in, is_printable_interval};
 ghost use Rattle.model_bank.specs.Bank.{begun};
 ghost use Rattle.model_bank.specs.Seen.{model_seen};
-ghost use Rattle.model_bank.specs.Steps.{set_ahead, widens, answer_on, answer_of, set_on, member_after};
+ghost use Rattle.model_bank.specs.Steps.{set_ahead, widens, answer_on, told_of, set_on, member_after};
 
 use crate::ModelRec;
 use arrayvec::ArrayVec;
-use observer_step::{Est, Judgement, Kept, Outcome};
+use observer_step::{Est, Judgement, Kept, Outcome, Room};
 use plant_model::{Plant, Sample};
 use std::marker::Model;
 
@@ -60,19 +60,20 @@ impl<const N: usize> Follower<N> {
         is_first: bool,
         last: &ArrayVec<i128, 4>,
         sample: &Sample,
+        room: &mut Room,
     ) -> Option<ModelRec>
         requires inputs { length sample.now.u.items ≡ self.old.plant.inputs }
         requires outputs { length sample.now.y.items ≡ self.old.plant.outputs }
         requires last_inputs { is_first ≡ false → length last.now.items ≡ self.old.plant.inputs }
         requires last_small { AllWithinLimit input_limit last.now.items }
-        ensures answer { option_map model_seen result ≡ (if self.old.live then Some (record { index = index; answer = answer_of is_first last.now.items (sample_of sample.now) self.old }) else None) }
+        ensures answer { option_map model_seen result ≡ told_of is_first last.now.items (sample_of sample.now) index self.old }
         ensures member { self.new ≡ member_after is_first last.now.items (sample_of sample.now) self.old }
     {
         if !self.live {
             return None;
         }
         let kept = go_ahead(&self.plant, &mut self.estimate, is_first, last);
-        let model = judge(&self.plant, &mut self.estimate, index, kept, sample);
+        let model = judge(&self.plant, &mut self.estimate, index, kept, sample, room);
         self.live = fits(&model.outcome);
         Some(model)
     }
@@ -105,16 +106,18 @@ fn judge<const N: usize>(
     index: u32,
     kept: Kept,
     sample: &Sample,
+    room: &mut Room,
 ) -> ModelRec
     requires inputs { length sample.now.u.items ≡ plant.now.inputs }
     requires outputs { length sample.now.y.items ≡ plant.now.outputs }
-    ensures answer { model_seen result ≡ record { index = index; answer = answer_on plant.now (sample_of sample.now) estimate.old.plain (was_widened kept) } }
+    ensures answer { let answer = answer_on plant.now (sample_of sample.now) estimate.old.plain (was_widened kept) in
+        model_seen result ≡ record { index = index; answer = answer } }
     ensures set { estimate.new.plain ≡ set_on plant.now (sample_of sample.now) estimate.old.plain }
 {
     let Judgement {
         outs: preds,
         outcome,
-    } = estimate.judge(plant, sample);
+    } = estimate.judge(plant, sample, room);
     let hulls = if fits(&outcome) {
         hulls(plant, estimate)
     } else {

@@ -8,6 +8,7 @@ ghost use Rattle.plant_model.specs.Seen.{plant_of, sample_of};
 use crate::ModelRec;
 use crate::follower::Follower;
 use arrayvec::ArrayVec;
+use observer_step::Room;
 use plant_model::{AnyPlant, Sample};
 use std::marker::Model;
 
@@ -43,7 +44,7 @@ impl Model for Member {
 impl Member {
     ghost use Rattle.model_bank.specs.Bank.{begun};
     ghost use Rattle.model_bank.specs.Seen.{model_seen};
-    ghost use Rattle.model_bank.specs.Steps.{answer_of, member_after};
+    ghost use Rattle.model_bank.specs.Steps.{told_of, member_after};
 
     /// The model of a plant before the first sample.
     pub fn begin(plant: AnyPlant) -> Member
@@ -68,21 +69,22 @@ impl Member {
         is_first: bool,
         last: &ArrayVec<i128, 4>,
         sample: &Sample,
+        room: &mut Room,
     ) -> Option<ModelRec>
         requires inputs { length sample.now.u.items ≡ self.old.plant.inputs }
         requires outputs { length sample.now.y.items ≡ self.old.plant.outputs }
         requires last_inputs { is_first ≡ false → length last.now.items ≡ self.old.plant.inputs }
         requires last_small { AllWithinLimit input_limit last.now.items }
-        ensures answer { option_map model_seen result ≡ (if self.old.live then Some (record { index = index; answer = answer_of is_first last.now.items (sample_of sample.now) self.old }) else None) }
+        ensures answer { option_map model_seen result ≡ told_of is_first last.now.items (sample_of sample.now) index self.old }
         ensures member { self.new ≡ member_after is_first last.now.items (sample_of sample.now) self.old }
     {
-        take(&mut self.follower, index, is_first, last, sample)
+        take(&mut self.follower, index, is_first, last, sample, room)
     }
 }
 
 ghost use Rattle.model_bank.specs.Bank.{begun};
 ghost use Rattle.model_bank.specs.Seen.{model_seen};
-ghost use Rattle.model_bank.specs.Steps.{answer_of, member_after};
+ghost use Rattle.model_bank.specs.Steps.{told_of, member_after};
 ghost use Rattle.model_bank.specs.Members.{member_of};
 
 /// The follower of a plant before the first sample.
@@ -124,22 +126,23 @@ fn take(
     is_first: bool,
     last: &ArrayVec<i128, 4>,
     sample: &Sample,
+    room: &mut Room,
 ) -> Option<ModelRec>
     requires inputs { length sample.now.u.items ≡ (member_of follower.old).plant.inputs }
     requires outputs { length sample.now.y.items ≡ (member_of follower.old).plant.outputs }
     requires last_inputs { is_first ≡ false → length last.now.items ≡ (member_of follower.old).plant.inputs }
     requires last_small { AllWithinLimit input_limit last.now.items }
-    ensures answer { option_map model_seen result ≡ (if (member_of follower.old).live then Some (record { index = index; answer = answer_of is_first last.now.items (sample_of sample.now) (member_of follower.old) }) else None) }
+    ensures answer { option_map model_seen result ≡ told_of is_first last.now.items (sample_of sample.now) index (member_of follower.old) }
     ensures member { member_of follower.new ≡ member_after is_first last.now.items (sample_of sample.now) (member_of follower.old) }
 {
     match follower {
-        AnyFollower::N1(f) => f.take(index, is_first, last, sample),
-        AnyFollower::N2(f) => f.take(index, is_first, last, sample),
-        AnyFollower::N3(f) => f.take(index, is_first, last, sample),
-        AnyFollower::N4(f) => f.take(index, is_first, last, sample),
-        AnyFollower::N5(f) => f.take(index, is_first, last, sample),
-        AnyFollower::N6(f) => f.take(index, is_first, last, sample),
-        AnyFollower::N7(f) => f.take(index, is_first, last, sample),
-        AnyFollower::N8(f) => f.take(index, is_first, last, sample),
+        AnyFollower::N1(f) => f.take(index, is_first, last, sample, room),
+        AnyFollower::N2(f) => f.take(index, is_first, last, sample, room),
+        AnyFollower::N3(f) => f.take(index, is_first, last, sample, room),
+        AnyFollower::N4(f) => f.take(index, is_first, last, sample, room),
+        AnyFollower::N5(f) => f.take(index, is_first, last, sample, room),
+        AnyFollower::N6(f) => f.take(index, is_first, last, sample, room),
+        AnyFollower::N7(f) => f.take(index, is_first, last, sample, room),
+        AnyFollower::N8(f) => f.take(index, is_first, last, sample, room),
     }
 }

@@ -1,6 +1,8 @@
 -- What is at hand before the readings of a sample are taken.
-use Rattle.std.specs.Prelude.{◌≡◌, ℕ, ◌<◌, ◌≤◌, ◌^◌, List, Option, None, Some, ℤ, unsigned_abs}
+use Rattle.std.specs.Prelude.{◌≡◌, ℕ, ◌<◌, ◌≤◌, List, Option, None, Some, ℤ, unsigned_abs}
 use Rattle.set_rules.specs.Zono.{Zono}
+use Rattle.set_rules.specs.Limits.{row_limit}
+use Rattle.set_rules.specs.Products.{row_with}
 use Rattle.plant_model.specs.Plant.{Plant, Present, Sample, reading_at}
 use Rattle.observer_step.specs.Estimate.{row_of}
 use Rattle.observer_step.specs.declared.ahead.FirstReading.{FirstReading}
@@ -15,8 +17,8 @@ pub record HasFirst (p : Plant) (s : Sample) (z : Zono) (coefficients : List ℤ
   pub none_before : NoneBefore s output
   pub reading : Present
   pub is : reading_at s output ≡ Some reading
-  pub within : unsigned_abs right ≤ 10 ^ 22
-  pub row : record { coefficients = coefficients; right = right } ≡ row_of p s.inputs output reading z
+  pub within : unsigned_abs right ≤ row_limit
+  pub row : row_with coefficients right ≡ row_of p s.inputs output reading z
 
 -- what is the first reading among the first m outputs, if there is one
 abbrev pub IsFirst : Plant → Sample → Zono → List ℤ → ℕ → Option FirstReading → Type 0

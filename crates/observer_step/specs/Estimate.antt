@@ -1,5 +1,5 @@
 -- The set that follows a plant through its telemetry, in turns of prediction and correction (after Combastel 2003).
-use Rattle.std.specs.Prelude.{◌≡◌, ◌≤◌, ◌-◌, ℕ, zero, suc, List, length, replicate, Option, Some, None, ℤ, pos, ◌+ℤ◌, Bool, false, not, if◌then◌else◌}
+use Rattle.std.specs.Prelude.{◌≡◌, ◌≤◌, ◌+◌, ◌*◌, ◌-◌, ℕ, zero, suc, List, length, replicate, Option, Some, None, ℤ, pos, ◌+ℤ◌, Bool, false, not, if◌then◌else◌}
 use Rattle.set_rules.specs.Columns.{at}
 use Rattle.set_rules.specs.Zono.{Zono}
 use Rattle.set_rules.specs.Rows.{Row}
@@ -8,6 +8,7 @@ use Rattle.set_rules.specs.Reduce.{reduce_set}
 use Rattle.set_rules.specs.Strip.{strip_row}
 use Rattle.set_rules.specs.Gain.{gain, substitute, in_range}
 use Rattle.set_rules.specs.Box.{box}
+use Rattle.set_rules.specs.Limits.{plain_columns, most_states}
 use Rattle.plant_model.specs.Plant.{Plant, Present, Sample, sample_at, reading_at, shift_of, through_of, output_row}
 use Rattle.observer_step.specs.Predicted.{first_set}
 
@@ -15,9 +16,9 @@ use Rattle.observer_step.specs.Predicted.{first_set}
 abbrev pub state_box : Plant → Zono
 state_box p = box p.states (replicate p.states (pos 0)) p.state_max
 
--- the set reduced to 48 columns
+-- the set reduced to the columns that it keeps between samples
 abbrev pub trim : ℕ → Zono → Zono
-trim n z = reduce_set n 48 z
+trim n z = reduce_set n plain_columns z
 
 -- the image of a set under the plant with the inputs u
 abbrev pub image_of : Plant → List ℤ → Zono → Zono
@@ -80,9 +81,13 @@ pub record StandsCorrected (p : Plant) (samples : List Sample) (e : Estimate) : 
   pub some : 1 ≤ length samples
   pub is : e.plain ≡ corrected_set p samples (length samples - 1)
 
--- room for an image of a set reduced to 48 columns, and for the row of a reading
+-- the most columns of an image of a set that was reduced
+abbrev pub image_columns : ℕ
+image_columns = plain_columns + 2 * most_states
+
+-- room for the row of a reading, and for an image of the set once it is reduced
 abbrev pub HasRoom : Estimate → Type 0
-HasRoom e = length e.plain.columns ≤ 64
+HasRoom e = length e.plain.columns ≤ image_columns
 
 -- where e is corrected by samples that end with the inputs u, e' has the set predicted from there, and the test says whether that is the state box
 abbrev pub LeadsOn : Plant → List ℤ → Estimate → Estimate → Bool → Type 0

@@ -4,3 +4,4 @@ pub mod Answers
 pub mod Seen
 pub mod Laws
 pub mod Ahead
+pub mod Missed

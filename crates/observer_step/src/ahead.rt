@@ -2,13 +2,14 @@
 
 ghost use Rattle.std.specs.Prelude.{◌≡◌, ◌<◌, ◌≤◌, ◌^◌, length, true, pos, ◌≤ℤ◌, ◌-ℤ◌, ◌+ℤ◌, unsigned_abs};
 ghost use Rattle.std.specs.List.{list_all, sum_by};
-ghost use Rattle.set_rules.specs.Limits.{input_limit};
+ghost use Rattle.set_rules.specs.Limits.{input_limit, row_limit, interval_limit};
+ghost use Rattle.set_rules.specs.Products.{row_with};
 ghost use Rattle.set_rules.specs.Zono.{range};
 ghost use Rattle.plant_model.specs.Plant.{AllWithinLimit};
 ghost use Rattle.plant_model.specs.Seen.{sample_of};
 ghost use Rattle.observer_step.specs.Predicted.{out_of, predicted_outs};
 ghost use Rattle.observer_step.specs.Seen.{is_printable_interval};
-ghost use Rattle.observer_step.specs.Estimate.{row_of};
+ghost use Rattle.observer_step.specs.Estimate.{row_of, image_columns};
 ghost use Rattle.observer_step.specs.Ahead.{IsFirst};
 
 use crate::inputs::through;
@@ -41,7 +42,7 @@ pub fn look_ahead<const N: usize>(
 ) -> Ahead
     requires inputs { length sample.now.u.items ≡ plant.now.inputs }
     requires outputs { length sample.now.y.items ≡ plant.now.outputs }
-    requires room { length set.now.columns ≤ 64 }
+    requires room { length set.now.columns ≤ image_columns }
     ensures value { result.outs.items ≡ predicted_outs plant.now sample.now.u.items set.now }
     ensures printable { list_all is_printable_interval result.outs.items ≡ true }
     ensures first { IsFirst plant.now (sample_of sample.now) set.now row.new plant.now.outputs result.first }
@@ -77,12 +78,12 @@ fn row_and_interval<const N: usize>(
     requires reading { unsigned_abs v ≤ range }
     requires slack_low { pos 0 ≤ℤ slack }
     requires slack_high { slack ≤ℤ pos 1 }
-    requires room { length set.now.columns ≤ 64 }
-    ensures row { record { coefficients = row.new; right = result.0 } ≡ row_of plant.now u.now o (record { value = v; slack = slack }) set.now }
-    ensures within { unsigned_abs result.0 ≤ 10 ^ 22 }
+    requires room { length set.now.columns ≤ image_columns }
+    ensures row { row_with row.new result.0 ≡ row_of plant.now u.now o (record { value = v; slack = slack }) set.now }
+    ensures within { unsigned_abs result.0 ≤ row_limit }
     ensures value { result.1 ≡ out_of plant.now u.now set.now o }
-    ensures low { unsigned_abs result.1.0 ≤ 10 ^ 24 }
-    ensures high { unsigned_abs result.1.1 ≤ 10 ^ 24 }
+    ensures low { unsigned_abs result.1.0 ≤ interval_limit }
+    ensures high { unsigned_abs result.1.1 ≤ interval_limit }
 {
     let _ = plant.noise(o);
     let right = fill_row(set, row, plant, u, o, v, slack);
@@ -91,13 +92,13 @@ fn row_and_interval<const N: usize>(
 
 /// The predicted interval of the output of which `v` is the reading: the magnitudes in its row add up to half of its width and the slack.
 fn interval_of_row(row: &Coefs, right: i128, v: i128, slack: i128) -> (i128, i128)
-    requires right { unsigned_abs right ≤ 10 ^ 22 }
+    requires right { unsigned_abs right ≤ row_limit }
     requires reading { unsigned_abs v ≤ range }
     requires slack_low { pos 0 ≤ℤ slack }
     requires slack_high { slack ≤ℤ pos 1 }
-    ensures value { result ≡ (v -ℤ right -ℤ (pos (sum_by unsigned_abs row.now) -ℤ slack), v -ℤ right +ℤ (pos (sum_by unsigned_abs row.now) -ℤ slack)) }
-    ensures low { unsigned_abs result.0 ≤ 10 ^ 24 }
-    ensures high { unsigned_abs result.1 ≤ 10 ^ 24 }
+    ensures value { let half = pos (sum_by unsigned_abs row.now) -ℤ slack in result ≡ (v -ℤ right -ℤ half, v -ℤ right +ℤ half) }
+    ensures low { unsigned_abs result.0 ≤ interval_limit }
+    ensures high { unsigned_abs result.1 ≤ interval_limit }
 {
     let middle = v - right;
     let half = row.sum() as i128 - slack;
@@ -112,7 +113,7 @@ pub fn predicted<const N: usize>(
 ) -> ArrayVec<(i128, i128), 6>
     requires count { length u.now ≡ plant.now.inputs }
     requires small { AllWithinLimit input_limit u.now }
-    requires room { length set.now.columns ≤ 64 }
+    requires room { length set.now.columns ≤ image_columns }
     ensures value { result.items ≡ predicted_outs plant.now u.now set.now }
     ensures printable { list_all is_printable_interval result.items ≡ true }
 {
@@ -128,10 +129,10 @@ fn interval<const N: usize>(set: &Zono<N>, plant: &Plant<N>, u: &[i128], o: usiz
     requires count { length u.now ≡ plant.now.inputs }
     requires small { AllWithinLimit input_limit u.now }
     requires output { o < plant.now.outputs }
-    requires room { length set.now.columns ≤ 64 }
+    requires room { length set.now.columns ≤ image_columns }
     ensures value { result ≡ out_of plant.now u.now set.now o }
-    ensures low { unsigned_abs result.0 ≤ 10 ^ 24 }
-    ensures high { unsigned_abs result.1 ≤ 10 ^ 24 }
+    ensures low { unsigned_abs result.0 ≤ interval_limit }
+    ensures high { unsigned_abs result.1 ≤ interval_limit }
 {
     let _ = plant.states();
     set.out_interval(&plant.c_row(o), through(plant, u, o), plant.noise(o))

@@ -4,31 +4,33 @@ ghost use Rattle.std.specs.Prelude.{◌≡◌, ◌<◌, ◌≤◌, ◌^◌, [], 
 ghost use Rattle.std.specs.List.{list_all};
 ghost use Rattle.set_rules.specs.Box.{hull as hull_of};
 ghost use Rattle.set_rules.specs.Limits.{input_limit};
+ghost use Rattle.set_rules.specs.Zono.{range};
 ghost use Rattle.farkas_check.specs.Certificate.{by_out};
 ghost use Rattle.plant_model.specs.Plant.{AllWithinLimit};
 ghost use Rattle.plant_model.specs.Seen.{sample_of};
 ghost use Rattle.observer_step.specs.Predicted.{first_set, predicted_outs, due};
-ghost use Rattle.observer_step.specs.Estimate.{leaves_range, predict as predict_of, correct as correct_of, state_box as state_box_of, StandsReady, LeadsOn};
+ghost use Rattle.observer_step.specs.Estimate.{leaves_range, predict as predict_of, correct as correct_of, state_box as state_box_of, image_columns, StandsReady, LeadsOn};
 ghost use Rattle.observer_step.specs.Answers.{Judges};
 ghost use Rattle.observer_step.specs.Seen.{was_widened, certificate_in, is_printable_interval};
 
 use crate::ahead::{Ahead, look_ahead, predicted};
 use crate::inputs::shift;
 use crate::readings::{missed, take_readings};
-use crate::{Judgement, Kept, Outcome};
+use crate::room::Room;
+use crate::{Judgement, Kept, Outcome, PLAIN_COLUMNS};
 use arrayvec::ArrayVec;
 use farkas_check::Cert;
-use fixed_mat::{Coefs, Mat};
+use fixed_mat::Mat;
 use plant_model::{Plant, Sample};
 use std::marker::Model;
-use zono_set::Zono;
+use zono_set::{Refusals, Zono};
 
 /// The set in which the state of a plant of `N` states lies at a sample: predicted by its image, corrected by its readings (after Combastel 2003).
 #[derive(Drop)]
 pub struct Est<const N: usize> {
     plain: Zono<N>,
-    /// Room for the row of a reading, so that no sample makes it anew.
-    row: Coefs,
+    /// How the set fared with the latest rows; no part of the estimate's value.
+    refusals: Refusals,
 }
 
 impl<const N: usize> Model for Est<N> {
@@ -49,7 +51,7 @@ impl<const N: usize> Est<N> {
     {
         Est {
             plain: first_box(plant),
-            row: Coefs::new(),
+            refusals: Refusals::new(),
         }
     }
 
@@ -78,8 +80,8 @@ impl<const N: usize> Est<N> {
     pub fn hull(&self, i: usize) -> (i128, i128)
         requires { i < N }
         ensures value { result ≡ hull_of self.now.plain i }
-        ensures low { unsigned_abs result.0 ≤ 1_000_000_000_000_000_000 }
-        ensures high { unsigned_abs result.1 ≤ 1_000_000_000_000_000_000 }
+        ensures low { unsigned_abs result.0 ≤ range }
+        ensures high { unsigned_abs result.1 ≤ range }
     {
         self.plain.hull(i)
     }
@@ -93,11 +95,12 @@ impl<const N: usize> Est<N> {
         ensures excluded { IsSome (certificate_in result) → self.new ≡ self.old }
         ensures stands { Judges plant.now (sample_of sample.now) self.old self.new (certificate_in result) }
     {
-        self.judge(plant, sample).outcome
+        let mut room = Room::new();
+        self.judge(plant, sample, &mut room).outcome
     }
 
-    /// What `outs` and `correct` say of the sample, by one computation: the row of the first reading gives its predicted interval too.
-    pub fn judge(&mut self, plant: &Plant<N>, sample: &Sample) -> Judgement
+    /// What `outs` and `correct` say of the sample, by one computation in room that is lent: the row of the first reading gives its predicted interval too.
+    pub fn judge(&mut self, plant: &Plant<N>, sample: &Sample, room: &mut Room) -> Judgement
         requires inputs { length sample.now.u.items ≡ plant.now.inputs }
         requires outputs { length sample.now.y.items ≡ plant.now.outputs }
         ensures outs { result.outs.items ≡ predicted_outs plant.now sample.now.u.items self.old.plain }
@@ -108,11 +111,18 @@ impl<const N: usize> Est<N> {
         ensures stands { Judges plant.now (sample_of sample.now) self.old self.new (certificate_in result.outcome) }
     {
         let _ = plant.outputs();
-        let Ahead { outs, first } = look_ahead(&self.plain, &mut self.row, plant, sample);
+        let Ahead { outs, first } = look_ahead(&self.plain, &mut room.row, plant, sample);
         let outcome = match missed(&outs, &sample.y) {
             Some(o) => Outcome::Excluded(Cert::Out(o as u32)),
             None => {
-                take_readings(&mut self.plain, &mut self.row, plant, sample, first);
+                take_readings(
+                    &mut self.plain,
+                    &mut self.refusals,
+                    room,
+                    plant,
+                    sample,
+                    first,
+                );
                 Outcome::Fits
             }
         };
@@ -123,7 +133,7 @@ impl<const N: usize> Est<N> {
 /// The box in which the plant starts.
 fn first_box<const N: usize>(plant: &Plant<N>) -> Zono<N>
     ensures value { result ≡ first_set plant.now }
-    ensures room { length result.columns ≤ 64 }
+    ensures room { length result.columns ≤ image_columns }
 {
     let _ = plant.states();
     Zono::of_box(plant.centre(), plant.radius()).unwrap()
@@ -132,22 +142,22 @@ fn first_box<const N: usize>(plant: &Plant<N>) -> Zono<N>
 /// The box of the plant's state bounds.
 fn state_box<const N: usize>(plant: &Plant<N>) -> Zono<N>
     ensures value { result ≡ state_box_of plant.now }
-    ensures room { length result.columns ≤ 64 }
+    ensures room { length result.columns ≤ image_columns }
 {
     let _ = plant.states();
     Zono::of_box(&Mat::zero(), plant.state_max()).unwrap()
 }
 
-/// Moves a set one sample on: the image of its at most 48 columns, or the state box.
+/// Moves a set one sample on: the image of its at most `PLAIN_COLUMNS` columns, or the state box.
 fn move_on<const N: usize>(set: &mut Zono<N>, plant: &Plant<N>, u: &[i128]) -> Kept
     requires count { length u.now ≡ plant.now.inputs }
     requires small { AllWithinLimit input_limit u.now }
     ensures value { set.new ≡ predict_of plant.now u.now set.old }
     ensures kept { was_widened result ≡ leaves_range plant.now u.now set.old }
-    ensures room { length set.new.columns ≤ 64 }
+    ensures room { length set.new.columns ≤ image_columns }
 {
     let _ = plant.states();
-    set.reduce(48);
+    set.reduce(PLAIN_COLUMNS);
     match set.image(plant.a(), &shift(plant, u), plant.e(), plant.dists()) {
         Ok(()) => Kept::Imaged,
         Err(_) => {
@@ -161,7 +171,7 @@ fn move_on<const N: usize>(set: &mut Zono<N>, plant: &Plant<N>, u: &[i128]) -> K
 #[inline(never)]
 fn widen<const N: usize>(set: &mut Zono<N>, plant: &Plant<N>)
     ensures value { set.new ≡ state_box_of plant.now }
-    ensures room { length set.new.columns ≤ 64 }
+    ensures room { length set.new.columns ≤ image_columns }
 {
     *set = state_box(plant);
 }

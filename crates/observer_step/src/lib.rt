@@ -6,9 +6,14 @@ mod est;
 mod inputs;
 mod outcome;
 mod readings;
+mod room;
 
 pub use est::Est;
 pub use outcome::{Judgement, Kept, Outcome};
+pub use room::Room;
+
+/// How many columns a set keeps between samples.
+const PLAIN_COLUMNS: usize = 48;
 
 #[cfg(test)]
 mod tests;

@@ -135,7 +135,7 @@ fn a_reading_that_spreads_is_not_used(rt: HostRuntime) -> Result<(), Fail> {
         assert!(rt; cols.len() < 128);
         cols.push_diagonal(0, v);
         assert!(rt; a.len() < 128);
-        a.push(v)?;
+        a.push(i128::from(v))?;
     }
     assert!(rt; a.len() < 128);
     a.push(NOISE)?;

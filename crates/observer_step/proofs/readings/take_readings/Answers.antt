@@ -10,8 +10,8 @@ use Rattle.observer_step.proofs.readings.take_readings.Given.{Over}
 use Rattle.observer_step.proofs.readings.take_readings.Goals as goal
 use Rattle.observer_step.proofs.readings.take_readings.Goals.{In-Some}
 
-first : (g : Over) (c : In-Some g) → HasFirst c.args.plant.now (sample_of c.args.sample.now) c.args.set.now c.args.row.now c.args.plant.now.outputs c.in-Some.reading.output c.in-Some.reading.right
-first g c = subst (IsFirst c.args.plant.now (sample_of c.args.sample.now) c.args.set.now c.args.row.now c.args.plant.now.outputs) c.in-Some.is c.requires.first
+first : (g : Over) (c : In-Some g) → HasFirst c.args.plant.now (sample_of c.args.sample.now) c.args.set.now c.args.room.now.row c.args.plant.now.outputs c.in-Some.reading.output c.in-Some.reading.right
+first g c = subst (IsFirst c.args.plant.now (sample_of c.args.sample.now) c.args.set.now c.args.room.now.row c.args.plant.now.outputs) c.in-Some.is c.requires.first
 
 pub take_row-requires : goal.take_row-requires
 take_row-requires g c =
@@ -36,7 +36,7 @@ loop-o-init g c =
     let first = first g (goal.at.loop-o-init g c).In-Some in
     let within = first.within in
     let same = back c.in-Some.reading.right (omega arith) in
-    let offered : Row = record { coefficients = c.args.row.now; right = c.in-Some.reading.right } in
+    let offered : Row = record { coefficients = c.args.room.now.row; right = c.in-Some.reading.right } in
     record {
       taken = first-taken p s c.in-Some.reading.output first.reading c.args.set.now c.take_row.new.set first.none_before first.is
           (reading-taken p s.inputs c.in-Some.reading.output first.reading c.args.set.now g.row.N c.states.ensures.states offered c.take_row.new.set first.row (rw same at c.take_row.ensures.value));
@@ -52,4 +52,4 @@ loop-o-preserved g c = record {
 pub returns-in-None-clause-value : goal.returns-in-None-clause-value
 returns-in-None-clause-value g c =
     none-taken c.args.plant.now (sample_of c.args.sample.now) c.args.plant.now.outputs c.args.set.now
-    (subst (IsFirst c.args.plant.now (sample_of c.args.sample.now) c.args.set.now c.args.row.now c.args.plant.now.outputs) c.in-None.is c.requires.first)
+    (subst (IsFirst c.args.plant.now (sample_of c.args.sample.now) c.args.set.now c.args.room.now.row c.args.plant.now.outputs) c.in-None.is c.requires.first)

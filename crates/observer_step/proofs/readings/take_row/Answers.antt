@@ -18,8 +18,8 @@ gain_within-gains-requires g c = (
   ),
 )
 
-pub substitute-requires : goal.substitute-requires
-substitute-requires g c =
+pub substitute_in-requires : goal.substitute_in-requires
+substitute_in-requires g c =
     let long = c.requires.columns in
     let room = c.requires.room in
     let few = c.requires.states in
@@ -30,12 +30,12 @@ reduce-requires g c = (omega arith, (let few = c.requires.states in omega arith,
 
 pub returns-clause-value : goal.returns-clause-value
 returns-clause-value g c =
-    row-taken g.row.N (record { coefficients = c.args.row.now; right = c.args.right }) c.args.set.now _ c.cols.result.now c.gain_within-gains.result c.substitute.new.self c.reduce.new.self
-    (back c.args.right (let h = c.requires.right in omega arith)) c.cols.ensures.value c.gain_within-gains.ensures c.substitute.ensures.value c.reduce.ensures.value
+    row-taken g.row.N (record { coefficients = c.args.room.now.row; right = c.args.right }) c.args.set.now _ c.cols.result.now c.gain_within-gains.result c.substitute_in.new.self c.reduce.new.self
+    (back c.args.right (let h = c.requires.right in omega arith)) c.cols.ensures.value c.gain_within-gains.ensures c.substitute_in.ensures.value c.reduce.ensures.value
 
 pub returns-clause-room : goal.returns-clause-room
 returns-clause-room g c =
     let states = c.requires.states in
-    let few = reduction-fits g.row.N 48 c.substitute.new.self.columns (omega arith) in
+    let few = reduction-fits g.row.N 48 c.substitute_in.new.self.columns (omega arith) in
     let is = ap (λ (z : Zono). length z.columns) c.reduce.ensures.value in
     omega arith
