@@ -9,7 +9,7 @@ use Rattle.set_rules.specs.Image.{IsStep}
 use Rattle.set_rules.specs.Strip.{Reads}
 use Rattle.plant_model.specs.Plant.{Plant, Present, Sample, no_sample, sample_at, reading_at, shift_of, through_of, output_row, Trajectory, states_at, disturbances_at, Obeys}
 use Rattle.observer_step.specs.Estimate.{state_box, trim, image_of, leaves_range, predict, correct_reading, corrected_after, correct, predicted_set}
-use Rattle.observer_step.specs.Laws.{ReadyHolds, CorrectedHolds}
+use Rattle.observer_step.specs.Laws.{BeginHolds, PredictKeeps, CorrectKeeps, ReadyHolds, CorrectedHolds}
 use Rattle.set_rules.proofs.ImageSets.{image-encloses}
 use Rattle.set_rules.proofs.ReductionHolds.{reduction-keeps}
 use Rattle.set_rules.proofs.RowsHold.{box-holds}
@@ -99,6 +99,18 @@ ready-inside p samples (suc k) x obeys =
     let next : k + 1 ≡ suc k = omega arith in
     subst (λ j. Inside p.states (predict p s.inputs (correct p s (predicted_set p samples k))) (states_at x j) q) next
     (predict-keeps p s.inputs (states_at x k) (states_at x (k + 1)) (disturbances_at x k) q obeys.positive (obeys.moves k (omega arith)) (obeys.bounded (k + 1) (omega arith)) (correct p s (predicted_set p samples k)) now)
+
+-- the first set has the state in which each trajectory begins
+pub begin-holds : BeginHolds
+begin-holds p samples k x obeys = box-holds p.states x.denominator p.centre p.radius (states_at x 0) obeys.positive obeys.starts
+
+-- a step from a point inside ends inside the predicted set
+pub predict-holds : PredictKeeps
+predict-holds p u z q x x' v positive step bounded inside = predict-keeps p u x x' v q positive step bounded z inside
+
+-- a point of which there are these readings stays inside the corrected set
+pub correct-holds : CorrectKeeps
+correct-holds p s z q x positive reads inside = readings-keep p s x q positive p.outputs z reads inside
 
 -- the predicted set has the state of each trajectory that obeys the samples before
 pub ready-holds : ReadyHolds
