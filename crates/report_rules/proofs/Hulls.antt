@@ -1,20 +1,20 @@
 -- Each hull line of a report holds every trajectory of its model, and each model that an exclusion line names has none.
 use Rattle.std.proofs.Common.{◌≡◌, ℕ, zero, suc, ◌+◌, ◌<◌, ◌≤◌, ℤ, pos, List, [], ◌∷◌, ◌++◌, length, map, flat_map, get_or, Option, Some, None, option_map, is_none, if◌then◌else◌, Bool, true, false, not, refl, sym, ap, ◌∙◌, arith, subst, append_assoc}
 use Rattle.std.specs.List.{enumerate_from}
-use Rattle.set_rules.specs.Columns.{tabulate}
 use Rattle.set_rules.specs.Box.{hull as hull_of, IsBetween}
 use Rattle.set_rules.proofs.ImageSets.{length-tabulate, get_or-tabulate}
-use Rattle.farkas_check.specs.Certificate.{Certificate, by_out}
-use Rattle.plant_model.specs.Plant.{Plant, Sample, sample_at, Consistent}
+use Rattle.farkas_check.specs.Certificate.{by_out}
+use Rattle.plant_model.specs.Plant.{Plant, Sample, sample_at}
 use Rattle.observer_step.specs.Predicted.{hulls, due}
-use Rattle.observer_step.specs.Answers.{Answer, Observer, zonotope_observer, answer_at, certificate_at, is_live}
+use Rattle.observer_step.specs.Answers.{Answer, Observer, answer_at, certificate_at, is_live}
 use Rattle.observer_step.proofs.ExclusionHolds.{hull-contains, due-has_none}
-use Rattle.model_bank.specs.Answers.{ModelAnswer, answer_if, answers_from, sample_answer}
-use Rattle.report_text.specs.Line.{Line, title, model, sample, pred, exclude, hull, status, possible, verdict, end}
+use Rattle.model_bank.specs.Answers.{answer_if, answers_from, sample_answer}
+use Rattle.report_text.specs.Line.{Line, model, pred, hull, status, possible, verdict}
 use Rattle.isolate_core.specs.Verdict.{possible_models}
 use Rattle.report_rules.specs.Lines.{head_lines, pred_lines, hull_lines, outcome_lines, model_lines, sample_lines, samples_lines, last_lines}
 use Rattle.report_rules.specs.Claims.{HullsHold, ExclusionsHold, HoldsEvery, IsSoundBefore, plant_at, no_plant}
 use Rattle.report_rules.specs.Report.{report}
+use Rattle.report_rules.specs.Laws.{HullsAreSound, ExclusionsAreSound, ZonotopeIsSound}
 
 module _ (o : Observer) (plant : ℕ → Plant) (samples : List Sample) (n : ℕ) (sound : IsSoundBefore o samples n) where
   -- both claims on lines that speak of sample k
@@ -112,15 +112,15 @@ module _ (o : Observer) (plant : ℕ → Plant) (samples : List Sample) (n : ℕ
         (record { hulls = named.hulls; exclusions = named.exclusions })
 
 -- each hull of a report holds every trajectory
-pub hulls-hold_whole : (o : Observer) (names : List (List ℕ)) (ps : List Plant) (samples : List Sample) (is_whole : Bool) → IsSoundBefore o samples (length samples) → HullsHold (plant_at ps) samples 0 (report o names ps samples is_whole)
+pub hulls-hold_whole : HullsAreSound
 hulls-hold_whole o names ps samples is_whole sound = (report-holds o (plant_at ps) samples (length samples) sound ps (λ j l. refl) names is_whole (omega arith)).hulls
 
 -- each model that a report excludes has none
-pub exclusions-hold_whole : (o : Observer) (names : List (List ℕ)) (ps : List Plant) (samples : List Sample) (is_whole : Bool) → IsSoundBefore o samples (length samples) → ExclusionsHold (plant_at ps) samples 0 (report o names ps samples is_whole)
+pub exclusions-hold_whole : ExclusionsAreSound
 exclusions-hold_whole o names ps samples is_whole sound = (report-holds o (plant_at ps) samples (length samples) sound ps (λ j l. refl) names is_whole (omega arith)).exclusions
 
 -- the zonotope that is predicted and corrected is sound at every sample
-pub zonotope-sound : (samples : List Sample) (n : ℕ) → IsSoundBefore zonotope_observer samples n
+pub zonotope-sound : ZonotopeIsSound
 zonotope-sound samples n = record {
   hulls_hold = λ p k l x m t obeys. hull-contains p samples k t obeys x m;
   due_has_none = λ p k l output e. due-has_none p samples k output e;

@@ -1,19 +1,18 @@
 -- After the intervals of a model of which a reading misses one, the line that excludes it by the least such output.
-use Rattle.std.proofs.Common.{◌≡◌, ℕ, zero, suc, ◌+◌, ◌<◌, ◌≤◌, ℤ, List, [], ◌∷◌, ◌++◌, length, map, flat_map, get_or, Option, Some, None, option_map, is_none, if◌then◌else◌, Bool, true, false, not, refl, sym, ap, ◌∙◌, arith, subst, append_assoc}
+use Rattle.std.proofs.Common.{◌≡◌, ℕ, zero, suc, ◌+◌, ◌<◌, ℤ, List, [], ◌∷◌, ◌++◌, length, map, flat_map, get_or, Option, Some, None, option_map, is_none, if◌then◌else◌, Bool, true, false, not, refl, sym, ap, ◌∙◌, arith, subst, append_assoc}
 use Rattle.std.specs.List.{enumerate_from}
-use Rattle.set_rules.specs.Columns.{tabulate}
 use Rattle.set_rules.specs.Tests.{first_below, last_passing, or_else}
 use Rattle.set_rules.proofs.ImageSets.{length-tabulate, get_or-tabulate}
-use Rattle.farkas_check.specs.Certificate.{Certificate, by_out}
+use Rattle.farkas_check.specs.Certificate.{by_out}
 use Rattle.isolate_core.specs.Verdict.{possible_models}
 use Rattle.plant_model.specs.Plant.{Plant, Sample, sample_at, reading_at}
-use Rattle.observer_step.specs.Predicted.{hulls, due, out_of, predicted_outs, reading_misses}
+use Rattle.observer_step.specs.Predicted.{hulls, due, out_of, reading_misses}
 use Rattle.observer_step.specs.Answers.{Answer, Observer, answer_at, certificate_at, is_live}
-use Rattle.model_bank.specs.Answers.{ModelAnswer, answer_if, answers_from, sample_answer}
-use Rattle.report_text.specs.Line.{Line, title, model, sample, pred, exclude, hull, status, possible, verdict, end}
+use Rattle.model_bank.specs.Answers.{answer_if, answers_from, sample_answer}
+use Rattle.report_text.specs.Line.{Line, model, pred, hull, status, possible, verdict}
 use Rattle.report_rules.specs.Lines.{head_lines, pred_lines, hull_lines, outcome_lines, model_lines, sample_lines, samples_lines, last_lines}
 use Rattle.report_rules.specs.Claims.{MissesTold, first_missed}
-use Rattle.report_rules.specs.Report.{report}
+use Rattle.report_rules.specs.Laws.{MissesAreTold}
 
 module _ (obs : Observer) (samples : List Sample) where
   -- nothing is left to be told
@@ -121,7 +120,7 @@ module _ (obs : Observer) (samples : List Sample) where
     last-told n false k = tt
 
 -- each miss of a report is told
-pub misses-told_whole : (obs : Observer) (names : List (List ℕ)) (ps : List Plant) (samples : List Sample) (is_whole : Bool) → MissesTold samples 0 None (report obs names ps samples is_whole)
+pub misses-told_whole : MissesAreTold
 misses-told_whole obs names ps samples is_whole =
     let last = last_lines (length samples) is_whole in
     let rest = past-samples obs samples ps (length samples) 0 last (last-told obs samples ps (length samples) is_whole) in

@@ -5,7 +5,7 @@ use Rattle.set_rules.specs.Box.{IsBetween, hull as hull_of}
 use Rattle.plant_model.specs.Plant.{Plant, Sample, sample_at, reading_at, Trajectory, states_at, Obeys, Consistent}
 use Rattle.observer_step.specs.Predicted.{reading_misses, due}
 use Rattle.observer_step.specs.Answers.{Observer}
-use Rattle.farkas_check.specs.Certificate.{Certificate, by_out}
+use Rattle.farkas_check.specs.Certificate.{by_out}
 use Rattle.report_text.specs.Line.{Line, sample, pred, exclude, hull}
 
 -- a plant of no state, past the last
