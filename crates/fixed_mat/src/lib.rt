@@ -1,6 +1,11 @@
 //! Whole nano-units in fixed storage: rounding, and matrices and columns whose entries stay in the range of their type.
 #![tactic(auto)]
 
+ghost use Rattle.std.specs.Prelude.{◌≡◌, pos};
+ghost use Rattle.set_rules.specs.Limits.{coef, row_limit, raw_limit};
+ghost use Rattle.set_rules.specs.Round.{unit};
+ghost use Rattle.set_rules.specs.Zono.{range};
+
 mod coefs;
 mod cols;
 mod mat;
@@ -30,6 +35,15 @@ pub const ROW: u128 = 10_000_000_000_000_000_000_000;
 
 /// The greatest magnitude of an unrounded product of inputs, in nano-units times nano-units.
 pub const RAW: u128 = 10_000_000_000_000_000_000_000_000_000;
+
+/// The constants are the limits and the unit of the definitions.
+pub fn limits()
+    ensures coefficients { COEF ≡ coef }
+    ensures entries { RANGE ≡ range }
+    ensures rows { ROW ≡ row_limit }
+    ensures products { RAW ≡ raw_limit }
+    ensures units { S ≡ pos unit }
+{}
 
 #[cfg(test)]
 mod tests;

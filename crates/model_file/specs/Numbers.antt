@@ -1,5 +1,6 @@
 -- Numbers of a model, in nano-units.
-use Rattle.std.specs.Prelude.{ℕ, ◌+◌, ◌*◌, ℤ, pos, ◌*ℤ◌, unsigned_abs, Bool, ◌&&◌, ◌==◌, nat_le, int_le, if◌then◌else◌, List, [], ◌∷◌, replicate, slice_set, Result, Ok, Err}
+use Rattle.std.specs.Prelude.{ℕ, ◌+◌, ◌*◌, ℤ, pos, ◌*ℤ◌, unsigned_abs, Bool, ◌&&◌, ◌==◌, nat_le, int_le}
+use Rattle.std.specs.Prelude.{if◌then◌else◌, List, [], ◌∷◌, replicate, slice_set, Result, Ok, Err}
 use Rattle.toml.specs.Data.{Data, integer, string}
 use Rattle.dec_text.specs.Decimal.{exact_of}
 use Rattle.dec_text.specs.declared.reading.DecFault.{DecFault}

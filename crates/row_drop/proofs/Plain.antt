@@ -30,15 +30,19 @@ no-shift : (g : List (List ℤ)) (a : List ℤ) → greatest_entry g < plain_lim
 no-shift g a h k = least_is (max (greatest_entry g) (greatest a)) 0 (omega arith) (λ y l. absurd (omega arith)) (omega arith)
 
 -- the gain, where the columns and the row are small
-pub gain-plain : (n : ℕ) (a : List ℤ) (g : List (List ℤ)) (gains : List ℤ) → Covers a g → greatest_entry g < plain_limit → sum_by unsigned_abs a < plain_limit
+pub gain-plain : (n : ℕ) (a : List ℤ) (g : List (List ℤ)) (gains : List ℤ) → Covers a g
+    → greatest_entry g < plain_limit → sum_by unsigned_abs a < plain_limit
     → gains ≡ gains_from n (state_product g a) (row_square a) → gains ≡ gain n g a
 gain-plain n a g gains long entries numbers is =
     let most = greatest-le-sum a in
     gain-is n 0 a g a gains long (same a) (no-shift g a entries (omega arith))
-    (is ∙ tabulate-same n (λ i. gain_of (state_product g a i) (row_square a)) (λ i. gain_of (shrunk_state_product 0 g a i) (row_square a)) (λ i _. ap (λ p. gain_of p (row_square a)) (product-is i)))
+    (is ∙ tabulate-same n (λ i. gain_of (state_product g a i) (row_square a)) (λ i. gain_of (shrunk_state_product 0 g a i) (row_square a))
+    (λ i _. ap (λ p. gain_of p (row_square a)) (product-is i)))
   where
     product-is : (i : ℕ) → state_product g a i ≡ shrunk_state_product 0 g a i
-    product-is i = total-same (length g) (λ t. column_entry g i t *ℤ at a t) (λ t. shrunk_value 0 (column_entry g i t) *ℤ at a t) (λ t _. ap (λ v. v *ℤ at a t) (sym (whole (column_entry g i t))))
+    product-is i =
+        total-same (length g) (λ t. column_entry g i t *ℤ at a t) (λ t. shrunk_value 0 (column_entry g i t) *ℤ at a t)
+        (λ t _. ap (λ v. v *ℤ at a t) (sym (whole (column_entry g i t))))
 
 -- one gain for each state
 pub gain-long : (n : ℕ) (g : List (List ℤ)) (a : List ℤ) → length (gain n g a) ≡ n

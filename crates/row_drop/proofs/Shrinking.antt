@@ -30,12 +30,14 @@ quotient-within (negsuc a) (negsuc b) = let h = div-le_self (suc a) (suc b) in o
 
 -- a unit times this, divided, in 128 bits
 pub quotient_back : (x d : ℤ) → unsigned_abs x ≤ 128 * 2 ^ 80 → SFits w128 d
-    → to_z w128 (of_z w128 (int_div (to_z w128 (of_z w128 (pos 1_000_000_000 *ℤ to_z w128 (of_z w128 x)))) (to_z w128 (of_z w128 d)))) ≡ int_div (pos 1_000_000_000 *ℤ x) d
+    → to_z w128 (of_z w128 (int_div (to_z w128 (of_z w128 (pos 1_000_000_000 *ℤ to_z w128 (of_z w128 x)))) (to_z w128 (of_z w128 d))))
+    ≡ int_div (pos 1_000_000_000 *ℤ x) d
 quotient_back x d small fits =
     let size : unsigned_abs (pos 1_000_000_000 *ℤ x) ≤ 10 ^ 36 = omega (arith, ints) in
     let less = quotient-within (pos 1_000_000_000 *ℤ x) d in
     (λ i. to_z w128 (of_z w128 (int_div (to_z w128 (of_z w128 (pos 1_000_000_000 *ℤ back x (omega arith) i))) (to_z-of_z fits i))))
-    ∙ ap (λ z. to_z w128 (of_z w128 (int_div z d))) (back (pos 1_000_000_000 *ℤ x) (omega arith)) ∙ back (int_div (pos 1_000_000_000 *ℤ x) d) (omega arith)
+    ∙ ap (λ z. to_z w128 (of_z w128 (int_div z d))) (back (pos 1_000_000_000 *ℤ x) (omega arith))
+    ∙ back (int_div (pos 1_000_000_000 *ℤ x) d) (omega arith)
 
 pub quotient_small : (x d : ℤ) → unsigned_abs x ≤ 128 * 2 ^ 80 → unsigned_abs (int_div (pos 1_000_000_000 *ℤ x) d) ≤ 10 ^ 36
 quotient_small x d small =
@@ -44,7 +46,8 @@ quotient_small x d small =
     omega arith
 
 -- a shift that is enough, where none below it is, is the least
-pub least_is : (size z : ℕ) → size < 2 ^ 128 → ((y : ℕ) → y < z → 2 ^ 40 ≤ size / 2 ^ y) → size / 2 ^ z < 2 ^ 40 → z ≡ shift_below (2 ^ 40) size
+pub least_is : (size z : ℕ) → size < 2 ^ 128 → ((y : ℕ) → y < z → 2 ^ 40 ≤ size / 2 ^ y) → size / 2 ^ z < 2 ^ 40
+    → z ≡ shift_below (2 ^ 40) size
 least_is size z small above below =
     let least = shift-least (2 ^ 40) size (omega arith) small in
     by (shift_below (2 ^ 40) size) (least.1 z below) (λ l. let h = above (shift_below (2 ^ 40) size) l in let k = least.0 in omega arith)
@@ -62,7 +65,8 @@ module _ (z : ℕ) (a : List ℤ) where
   pub square-shrunk : row_square shrink ≡ shrunk_square z a
   square-shrunk =
       ap (λ n. total n (λ t. at shrink t *ℤ at shrink t)) (length-map a (shrunk_value z))
-      ∙ total-same (length a) (λ t. at shrink t *ℤ at shrink t) (λ t. shrunk_value z (at a t) *ℤ shrunk_value z (at a t)) (λ t h. (λ i. entry-shrunk t h i *ℤ entry-shrunk t h i))
+      ∙ total-same (length a) (λ t. at shrink t *ℤ at shrink t) (λ t. shrunk_value z (at a t) *ℤ shrunk_value z (at a t))
+      (λ t h. (λ i. entry-shrunk t h i *ℤ entry-shrunk t h i))
 
   module _ (g : List (List ℤ)) (long : Covers a g) where
     abbrev term : ℕ → ℕ → ℤ
@@ -75,7 +79,9 @@ module _ (z : ℕ) (a : List ℤ) where
     none = ap pos (zero-div (2 ^ z))
 
     last : (i : ℕ) → term i (length g) ≡ pos 0
-    last i = ap (λ v. shrunk_value z v *ℤ shrunk_value z (at a (length g))) (past i) ∙ ap (λ v. v *ℤ shrunk_value z (at a (length g))) none ∙ times (shrunk_value z (at a (length g)))
+    last i =
+        ap (λ v. shrunk_value z v *ℤ shrunk_value z (at a (length g))) (past i) ∙ ap (λ v. v *ℤ shrunk_value z (at a (length g))) none
+        ∙ times (shrunk_value z (at a (length g)))
       where
         times : (v : ℤ) → pos 0 *ℤ v ≡ pos 0
         times v = omega (arith, ints)
@@ -85,9 +91,11 @@ module _ (z : ℕ) (a : List ℤ) where
 
     product-shrunk : (i : ℕ) → shrunk_state_product z g shrink i ≡ shrunk_product z g a i
     product-shrunk i =
-        total-same (length g) (λ t. shrunk_value z (column_entry g i t) *ℤ at shrink t) (term i) (λ t h. ap (λ v. shrunk_value z (column_entry g i t) *ℤ v) (entry-shrunk t (let r = reaches in omega arith)))
+        total-same (length g) (λ t. shrunk_value z (column_entry g i t) *ℤ at shrink t) (term i)
+        (λ t h. ap (λ v. shrunk_value z (column_entry g i t) *ℤ v) (entry-shrunk t (let r = reaches in omega arith)))
         ∙ ⊎_elim (λ (e : length a ≡ length g). ap (λ n. total n (term i)) (sym e))
-        (λ (e : length a ≡ length g + 1). sym (ap (λ n. total n (term i)) e ∙ total-more (length g) (term i) ∙ dropped (total (length g) (term i)) (term i (length g)) (last i)))
+        (λ (e : length a ≡ length g + 1). sym (ap (λ n. total n (term i)) e ∙ total-more (length g) (term i)
+        ∙ dropped (total (length g) (term i)) (term i (length g)) (last i)))
         long
       where
         dropped : (x y : ℤ) → y ≡ pos 0 → x +ℤ y ≡ x
@@ -98,7 +106,8 @@ module _ (z : ℕ) (a : List ℤ) where
     gain-shrunk n = tabulate-same n _ _ (λ i _. (λ ι. gain_of (product-shrunk i ι) (square-shrunk ι)))
 
 -- the gain, where the row and the shift are those
-pub gain-is : (n z : ℕ) (a : List ℤ) (g : List (List ℤ)) (row gains : List ℤ) → Covers a g → row ≡ map (shrunk_value z) a → z ≡ gain_shift g a
+pub gain-is : (n z : ℕ) (a : List ℤ) (g : List (List ℤ)) (row gains : List ℤ) → Covers a g
+    → row ≡ map (shrunk_value z) a → z ≡ gain_shift g a
     → gains ≡ gains_from n (shrunk_state_product z g row) (row_square row) → gains ≡ gain n g a
 gain-is n z a g row gains long shrunk shift is =
     is ∙ ap (λ r. gains_from n (shrunk_state_product z g r) (row_square r)) shrunk

@@ -12,6 +12,7 @@ use Rattle.set_rules.specs.Reduce.{greatest}
 use Rattle.set_rules.specs.Gain.{greatest_entry}
 use Rattle.set_rules.proofs.Sums.{total-zero, total-more}
 use Rattle.row_drop.specs.Room.{room, plain_limit}
+use Rattle.row_drop.specs.Rows.{FitsSquare}
 
 -- a number of a row of a small sum is the same in 64 bits
 pub number_is : (a : List ℤ) (t : ℕ) (z : ℤ) → t < length a → sum_by unsigned_abs a < plain_limit → SFits w128 z → z ≡ at a t
@@ -29,7 +30,8 @@ sizes-taken most (suc n) e a long small =
     let before = sizes-taken most n e a (omega arith) (λ t l. small t (omega arith)) in
     let more = total-more n (λ t. magnitude (e t *ℤ at a t)) in
     let size = unsigned_abs-mul (e n) (at a n) in
-    let one : unsigned_abs (e n) * unsigned_abs (at a n) ≤ most * unsigned_abs (at a n) = mul-le-mul (small n (omega arith)) (le_refl (unsigned_abs (at a n))) in
+    let one : unsigned_abs (e n) * unsigned_abs (at a n) ≤ most * unsigned_abs (at a n) =
+    mul-le-mul (small n (omega arith)) (le_refl (unsigned_abs (at a n))) in
     let next = ap (λ s. most * s) (sum_by_more unsigned_abs a n (pos 0) (omega arith)) in
     rw (← add-one n) (omega (arith, ints, before, more, size, one, next))
 
@@ -38,11 +40,12 @@ pub sizes-within : (limit most n : ℕ) (e : ℕ → ℤ) (a : List ℤ) → n �
     → most * sum_by unsigned_abs a ≤ limit → total n (λ t. magnitude (e t *ℤ at a t)) ≤ℤ pos limit
 sizes-within limit most n e a long small room =
     let taken = sizes-taken most n e a long small in
-    let less : most * sum_by unsigned_abs (take n a) ≤ most * sum_by unsigned_abs a = mul-le-mul (le_refl most) (sum_by-take-le unsigned_abs a n) in
+    let less : most * sum_by unsigned_abs (take n a) ≤ most * sum_by unsigned_abs a =
+    mul-le-mul (le_refl most) (sum_by-take-le unsigned_abs a n) in
     omega (arith, ints, taken, less, room)
 
 -- the square of a row whose sum is within a bound
-pub square-within : (limit most : ℕ) (a : List ℤ) → sum_by unsigned_abs a ≤ most → most * most ≤ limit → total (length a) (λ t. magnitude (at a t *ℤ at a t)) ≤ℤ pos limit
+pub square-within : (limit most : ℕ) (a : List ℤ) → sum_by unsigned_abs a ≤ most → most * most ≤ limit → FitsSquare limit a
 square-within limit most a small room =
     let least : most * sum_by unsigned_abs a ≤ most * most = mul-le-mul (le_refl most) small in
     sizes-within limit most (length a) (at a) a (le_refl (length a))
@@ -57,7 +60,8 @@ greatest-within (x ∷ xs) most h =
     omega arith
 
 -- the same of columns of this height
-pub columns-within : (n : ℕ) (g : List (List ℤ)) (most : ℕ) → All (λ column. length column ≡ n) g → ((i t : ℕ) → i < n → unsigned_abs (column_entry g i t) ≤ most) → greatest_entry g ≤ most
+pub columns-within : (n : ℕ) (g : List (List ℤ)) (most : ℕ) → All (λ column. length column ≡ n) g
+    → ((i t : ℕ) → i < n → unsigned_abs (column_entry g i t) ≤ most) → greatest_entry g ≤ most
 columns-within n [] most tall h = omega arith
 columns-within n (column ∷ g) most tall h =
     let size = tall 0 [] (omega arith) in
@@ -66,7 +70,8 @@ columns-within n (column ∷ g) most tall h =
     omega (arith, first, rest)
 
 -- what is raised to the low bits alone is no greater than what it was raised by
-pub raised-small : (x : ℤ) (limit bits : ℕ) → unsigned_abs x ≤ 10 ^ 18 → limit ≤ 2 ^ 39 → bits ≡ of_z w64 (x +ℤ pos limit) → bits < 2 * limit → unsigned_abs x ≤ limit
+pub raised-small : (x : ℤ) (limit bits : ℕ) → unsigned_abs x ≤ 10 ^ 18 → limit ≤ 2 ^ 39 → bits ≡ of_z w64 (x +ℤ pos limit) → bits < 2 * limit
+    → unsigned_abs x ≤ limit
 raised-small x limit bits small high is low =
     let read = to_z_pos w64 bits (omega arith) in
     let fits : SFits w64 (x +ℤ pos limit) = fits_signed_from_abs w64 (x +ℤ pos limit) (omega (arith, ints)) in

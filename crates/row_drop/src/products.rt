@@ -2,6 +2,7 @@
 
 ghost use Rattle.std.specs.Prelude.{◌≡◌, ◌<◌, ◌≤◌, ◌^◌, ◌/◌, length, ◌*ℤ◌, unsigned_abs};
 ghost use Rattle.std.specs.List.{All, sum_by};
+ghost use Rattle.set_rules.specs.Columns.{at};
 ghost use Rattle.set_rules.specs.Gain.{greatest_entry};
 ghost use Rattle.set_rules.specs.Limits.{most_columns};
 ghost use Rattle.row_drop.specs.Room.{plain_limit, product_limit};
@@ -30,7 +31,7 @@ fn square_in<W: Whole>(a: &Coefs) -> W
 {
     let mut sum = W::zero();
     for t in 0..a.len() {
-        let number = a.at(t) as i64;
+        let number = number_at(a, t);
         sum = sum.plus_product(number, number);
     }
     sum
@@ -46,9 +47,18 @@ pub fn product_in<W: Whole, const N: usize>(cols: &Cols<N>, i: usize, a: &Coefs)
 {
     let mut sum = W::zero();
     for t in 0..cols.len() {
-        sum = sum.plus_product(cols.at(i, t), a.at(t) as i64);
+        sum = sum.plus_product(cols.at(i, t), number_at(a, t));
     }
     sum
+}
+
+/// Coefficient `t` of a row whose sum fits 64 bits.
+fn number_at(a: &Coefs, t: usize) -> i64
+    requires within { t < length a.now }
+    requires small { sum_by unsigned_abs a.now < plain_limit }
+    ensures { result ≡ at a.now t }
+{
+    a.at(t) as i64
 }
 
 /// The shrunk row times itself.

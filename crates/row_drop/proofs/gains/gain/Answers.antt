@@ -5,4 +5,15 @@ use Rattle.row_drop.proofs.gains.gain.Goals as goal
 
 pub gain_within-requires : goal.gain_within-requires
 gain_within-requires g c =
-    (omega arith, (omega arith, (c.requires, λ i t _. subst (λ most. unsigned_abs (column_entry c.args.cols.now i t) ≤ most) (sym c.greatest_in_cols.ensures) (greatest_entry-at c.args.cols.now i t))))
+    let columns = c.args.cols.now in
+    let greatest = sym c.greatest_in_cols.ensures in (
+      omega arith,
+      (
+        omega arith,
+        (
+          c.requires,
+          λ i t _.
+              subst (λ most. unsigned_abs (column_entry columns i t) ≤ most) greatest (greatest_entry-at columns i t),
+        ),
+      ),
+    )

@@ -10,5 +10,7 @@ returns-clause-value c =
     let product : SFits w128 c.args.product = search rules in
     let square : SFits w128 c.args.square = search rules in
     let nonzero : nat_eq (unsigned_abs c.args.square) 0 ≡ false = search rules in
-    to_z-of_z fits ∙ c.clipped.ensures.value ∙ ap clipped_gain (to_z-of_z inner ∙ c.quotient.ensures.value ∙ (λ i. int_div (pos 1_000_000_000 *ℤ to_z-of_z product i) (to_z-of_z square i)))
+    to_z-of_z fits ∙ c.clipped.ensures.value
+    ∙ ap clipped_gain (to_z-of_z inner ∙ c.quotient.ensures.value
+    ∙ (λ i. int_div (pos 1_000_000_000 *ℤ to_z-of_z product i) (to_z-of_z square i)))
     ∙ sym (ap (λ b. if b then pos 0 else clipped_gain (int_div (pos 1_000_000_000 *ℤ c.args.product) c.args.square)) nonzero)

@@ -18,6 +18,9 @@ loop-i-preserved g c =
     let fits : SFits w64 c.ratio.result = record { sfits = c.ratio.type_inv } in
     let product_fits : SFits w128 c.product_of.result = record { sfits = c.product_of.type_inv } in
     record {
-      value = pushes [] _ _ _ _ _ c.loop-i.invariant.value c.push.ensures.items (to_z-of_z fits ∙ c.ratio.ensures.value ∙ ap (λ p. gain_of p (to_z w128 (of_z w128 c.square_of-square.result))) (to_z-of_z product_fits ∙ c.product_of.ensures.value));
-      within = rw (c.push.ensures.items, to_z-of_z fits) (All-push (λ z. unsigned_abs z ≤ coef) c.loop-i.gains.items c.ratio.result c.loop-i.invariant.within c.ratio.ensures.within);
+      value = pushes [] _ _ _ _ _ c.loop-i.invariant.value c.push.ensures.items
+          (to_z-of_z fits ∙ c.ratio.ensures.value
+          ∙ ap (λ p. gain_of p (to_z w128 (of_z w128 c.square_of-square.result))) (to_z-of_z product_fits ∙ c.product_of.ensures.value));
+      within = rw (c.push.ensures.items, to_z-of_z fits)
+          (All-push (λ z. unsigned_abs z ≤ coef) c.loop-i.gains.items c.ratio.result c.loop-i.invariant.within c.ratio.ensures.within);
     }

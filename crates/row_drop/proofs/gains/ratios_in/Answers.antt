@@ -27,8 +27,10 @@ ratio-requires g c =
     let row = c.args.a.now in
     let small = c.requires.row in
     let fits = sizes-within (2 ^ 80) (2 ^ 40) (length columns) (column_entry columns c.loop-i.i) row (reaches 0 row columns c.requires.long)
-    (λ t _. let most = greatest_entry-at columns c.loop-i.i t in let entries = c.requires.entries in omega (arith, most, entries)) (omega (arith, small)) in
-    let size = sum_fits (2 ^ 80) (length columns) (λ t. column_entry columns c.loop-i.i t *ℤ at row t) fits (length columns) (omega arith) in
+    (λ t _. let most = greatest_entry-at columns c.loop-i.i t in let entries = c.requires.entries in omega (arith, most, entries))
+    (omega (arith, small)) in
+    let count = length columns in
+    let size = sum_fits (2 ^ 80) count (λ t. column_entry columns c.loop-i.i t *ℤ at row t) fits count (omega arith) in
     rw (product_is g (goal.at.ratio-requires g c).After-wide) (omega (arith, size))
 
 pub push-requires : goal.push-requires

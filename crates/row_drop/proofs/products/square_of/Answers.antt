@@ -19,6 +19,7 @@ loop-t-preserved c =
     let more = c.loop-t-test.true in
     let sum = sum_on c.loop-t.sum-bits c.times-sum.result (omega arith) (omega arith) in
     record {
-      value = sum ∙ next_sum (to_z w128 c.loop-t.sum-bits) c.times-sum.result c.loop-t.t (λ t. at c.args.row.now t *ℤ at c.args.row.now t) c.loop-t.invariant.value value;
+      value = sum ∙ next_sum (to_z w128 c.loop-t.sum-bits) c.times-sum.result c.loop-t.t
+          (λ t. at c.args.row.now t *ℤ at c.args.row.now t) c.loop-t.invariant.value value;
       within = rw sum (omega (arith, ints));
     }

@@ -3,7 +3,8 @@ use Rattle.row_drop.proofs.Shrinking.{least_is}
 use Rattle.row_drop.proofs.shrink.shift_below_limit.Goals as goal
 
 pub returns-then-size-halvings-lt1099511627776-clause-value : goal.returns-then-size-halvings-lt1099511627776-clause-value
-returns-then-size-halvings-lt1099511627776-clause-value c = least_is c.args.size c.loop-halvings.halvings (search rules) c.loop-halvings.invariant (search rules)
+returns-then-size-halvings-lt1099511627776-clause-value c =
+    least_is c.args.size c.loop-halvings.halvings (search rules) c.loop-halvings.invariant (search rules)
 
 pub returns-clause-value : goal.returns-clause-value
 returns-clause-value c =
