@@ -1,10 +1,11 @@
-use Rattle.std.proofs.Common.{◌≡◌, ◌*◌, ◌≤◌, ◌^◌, ap, ◌∙◌, length, unsigned_abs, arith}
+use Rattle.std.proofs.Common.{ℕ, ◌<◌, ◌≡◌, ◌*◌, ◌≤◌, ◌^◌, ap, ◌∙◌, length, unsigned_abs, arith}
 use Rattle.std.specs.List.{sum_by}
 use Rattle.set_rules.specs.Columns.{column_entry}
 use Rattle.set_rules.specs.Gain.{greatest_entry}
 use Rattle.set_rules.specs.Limits.{narrow_limit, wide_limit}
 use Rattle.set_rules.proofs.Greatest.{greatest_entry-at}
 use Rattle.row_drop.specs.Room.{room}
+use Rattle.row_drop.specs.Rows.{FitsState}
 use Rattle.row_drop.proofs.Shrinking.{reaches}
 use Rattle.row_drop.proofs.Sizes.{sizes-within, columns-within, room-small, room-product}
 use Rattle.row_drop.proofs.gains.gains_of.Goals as goal
@@ -20,20 +21,11 @@ ratios_in-requires g c =
     let small = room-small (sum_by unsigned_abs row) in
     let product : most * sum_by unsigned_abs row ≤ narrow_limit = (rw room_is (room-product (sum_by unsigned_abs row))) in
     let entries = c.has_room.ensures c.if-has_room.true in
-    let all : greatest_entry columns ≤ most = columns-within g.row.N columns most c.tell_heights.ensures entries in (
-      omega arith,
-      (
-        c.requires.long,
-        (
-          omega (arith, all, room_is, small),
-          (
-            omega arith,
-            λ i h.
-                sizes-within narrow_limit most (length columns) (column_entry columns i) row (reaches 0 row columns c.requires.long) (λ t _. entries i t h) product,
-          ),
-        ),
-      ),
-    )
+    let all : greatest_entry columns ≤ most = columns-within g.row.N columns most c.tell_heights.ensures entries in
+    let reach = reaches 0 row columns c.requires.long in
+    let fits : (i : ℕ) → i < g.row.N → FitsState narrow_limit columns row i =
+    λ i h. sizes-within narrow_limit most (length columns) (column_entry columns i) row reach (λ t _. entries i t h) product in
+    (omega arith, (c.requires.long, (omega (arith, all, room_is, small), (omega arith, fits))))
 
 pub ratios_in-requires-then-all_within : goal.ratios_in-requires-then-all_within
 ratios_in-requires-then-all_within g c =
@@ -41,18 +33,9 @@ ratios_in-requires-then-all_within g c =
     let row = c.args.a.now in
     let sum = c.sum.ensures.value in
     let below = c.if-sum-lt1099511627776.true in
-    let all : greatest_entry columns ≤ 2 ^ 39 = c.all_within.ensures c.if-all_within.true in (
-      omega arith,
-      (
-        c.requires.long,
-        (
-          omega (arith, all),
-          (
-            omega arith,
-            λ i _.
-                sizes-within wide_limit (2 ^ 39) (length columns) (column_entry columns i) row (reaches 0 row columns c.requires.long)
-                (λ t _. let one = greatest_entry-at columns i t in omega (arith, one, all)) (omega (arith, sum, below)),
-          ),
-        ),
-      ),
-    )
+    let all : greatest_entry columns ≤ 2 ^ 39 = c.all_within.ensures c.if-all_within.true in
+    let reach = reaches 0 row columns c.requires.long in
+    let fits : (i : ℕ) → i < g.row.N → FitsState wide_limit columns row i =
+    λ i _. sizes-within wide_limit (2 ^ 39) (length columns) (column_entry columns i) row reach
+    (λ t _. let one = greatest_entry-at columns i t in omega (arith, one, all)) (omega (arith, sum, below)) in
+    (omega arith, (c.requires.long, (omega (arith, all), (omega arith, fits))))
