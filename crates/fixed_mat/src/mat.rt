@@ -3,7 +3,7 @@
 ghost use Rattle.std.specs.Prelude.{◌≡◌, ℕ, ◌+◌, ◌*◌, ◌<◌, ◌≤◌, ◌↔◌, pos, unsigned_abs, replicate, IsErr, IfErr, OnOk, OnErr, slice_set, length};
 ghost use Rattle.std.specs.List.{All};
 ghost use Rattle.std.proofs.Common.{arith};
-ghost use Rattle.set_rules.specs.Columns.{entry};
+ghost use Rattle.set_rules.specs.Columns.{entry, tabulate};
 ghost use Rattle.set_rules.specs.Zono.{range};
 ghost use Rattle.set_rules.specs.Limits.{coef, narrow_limit};
 
@@ -121,6 +121,21 @@ impl<const R: usize, const C: usize, L: Limit> Mat<R, C, L> {
         ensures within { unsigned_abs result ≤ L.LIM }
     {
         self.cells[r * C + c]
+    }
+
+    /// Row `r` alone.
+    pub fn row(&self, r: usize) -> Mat<1, C, L>
+        requires { r < R }
+        ensures { result ≡ tabulate C (λ l. entry C self.now r l) }
+    {
+        let mut cells = ArrayVec::new();
+        for l in 0..C {
+            cells.push(self.at(r, l));
+        }
+        Mat {
+            cells,
+            limit: PhantomData,
+        }
     }
 
     /// Writes the entry in row `r` and column `c`, where `v` is within the limit.

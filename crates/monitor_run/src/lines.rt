@@ -12,12 +12,13 @@ ghost use Rattle.report_rules.specs.Lines.{head_lines, sample_lines, model_lines
 ghost use Rattle.monitor_run.specs.Put.{PutsLines, model_outcome};
 
 use arrayvec::{ArrayString, ArrayVec};
+use dec_text::Line;
 use farkas_check::Cert;
 use model_bank::{ModelRec, SampleRec};
 use model_file::Bank0;
 use observer_step::{Kept, Outcome};
 use outside_io::{PutFault, Sink, put_all};
-use report_text::{RepLine, write_line};
+use report_text::{RepLine, push_line};
 
 /// Puts the title and the names of the models, or on a fault a front of them.
 pub fn put_head<O: Sink>(out: &mut O, models: &Bank0) -> Result<(), PutFault>
@@ -51,7 +52,8 @@ fn put_line<O: Sink>(out: &mut O, rep: &RepLine) -> Result<(), PutFault>
     requires { has_printable_ends (line_of rep.now) ≡ true }
     ensures { PutsLines (line_of rep.now ∷ []) (O.state out.old) result (O.state out.new) }
 {
-    let mut line = write_line(rep);
+    let mut line = Line::new();
+    push_line(rep, &mut line);
     line.push(b'\n');
     put_all(out, &line)
 }

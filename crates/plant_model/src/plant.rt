@@ -108,12 +108,7 @@ impl<const N: usize> Plant<N> {
         requires { o < self.now.outputs }
         ensures { result ≡ output_row self.now o }
     {
-        let c = &self.parts.c;
-        let mut row = Mat::zero();
-        for l in 0..N {
-            row.set(0, l, i128::from(c.at(o, l))).unwrap();
-        }
-        row
+        self.parts.c.row(o)
     }
 
     /// How the inputs lead to the outputs.

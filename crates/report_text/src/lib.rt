@@ -6,7 +6,7 @@ mod pieces;
 mod write;
 
 pub use line::RepLine;
-pub use write::write_line;
+pub use write::{push_line, write_line};
 
 #[cfg(test)]
 mod tests;

@@ -20,16 +20,27 @@ pub fn write_line(rep: &RepLine) -> Line
     ensures short { array_vec_len result ≤ 192 }
 {
     let mut line = Line::new();
+    push_line(rep, &mut line);
+    line
+}
+
+/// Appends the text of a line, without its line feed: where that is put, so that it is not made and moved for each line.
+pub fn push_line(rep: &RepLine, line: &mut Line)
+    requires ends { has_printable_ends (line_of rep.now) ≡ true }
+    requires room { array_vec_len line.old + 192 ≤ 256 }
+    ensures text { line.new.items ≡ line.old.items ++ line_text (line_of rep.now) }
+    ensures longer { array_vec_len line.new ≤ array_vec_len line.old + 192 }
+{
     match rep {
-        RepLine::Title => push_text(b"zonomon 1", &mut line),
+        RepLine::Title => push_text(b"zonomon 1", line),
         RepLine::Model { index, name } => {
-            push_text(b"model", &mut line);
-            push_index(*index, &mut line);
-            push_word(name.as_bytes(), &mut line);
+            push_text(b"model", line);
+            push_index(*index, line);
+            push_word(name.as_bytes(), line);
         }
         RepLine::Sample { k } => {
-            push_text(b"sample", &mut line);
-            push_count(*k, &mut line);
+            push_text(b"sample", line);
+            push_count(*k, line);
         }
         RepLine::Pred {
             model,
@@ -37,13 +48,13 @@ pub fn write_line(rep: &RepLine) -> Line
             lo,
             hi,
         } => {
-            push_text(b"p", &mut line);
-            push_interval(*model, *output, *lo, *hi, &mut line);
+            push_text(b"p", line);
+            push_interval(*model, *output, *lo, *hi, line);
         }
         RepLine::Exclude { model, cert } => {
-            push_text(b"x", &mut line);
-            push_index(*model, &mut line);
-            push_certificate(cert, &mut line);
+            push_text(b"x", line);
+            push_index(*model, line);
+            push_certificate(cert, line);
         }
         RepLine::Hull {
             model,
@@ -51,28 +62,27 @@ pub fn write_line(rep: &RepLine) -> Line
             lo,
             hi,
         } => {
-            push_text(b"h", &mut line);
-            push_interval(*model, *state, *lo, *hi, &mut line);
+            push_text(b"h", line);
+            push_interval(*model, *state, *lo, *hi, line);
         }
         RepLine::Status { model, kept } => {
-            push_text(b"s", &mut line);
-            push_index(*model, &mut line);
-            push_text(if *kept { b" fits" } else { b" undecided" }, &mut line);
+            push_text(b"s", line);
+            push_index(*model, line);
+            push_text(if *kept { b" fits" } else { b" undecided" }, line);
         }
         RepLine::Possible { models } => {
-            push_text(b"possible", &mut line);
-            push_indices(models, &mut line);
+            push_text(b"possible", line);
+            push_indices(models, line);
         }
         RepLine::Verdict(verdict) => {
-            push_text(b"verdict", &mut line);
-            push_verdict(*verdict, &mut line);
+            push_text(b"verdict", line);
+            push_verdict(*verdict, line);
         }
         RepLine::End { samples } => {
-            push_text(b"end", &mut line);
-            push_count(*samples, &mut line);
+            push_text(b"end", line);
+            push_count(*samples, line);
         }
     }
-    line
 }
 
 fn push_certificate(cert: &Cert, line: &mut Line)
