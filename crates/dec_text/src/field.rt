@@ -1,10 +1,14 @@
 //! Reads a field of a telemetry row.
-ghost use Rattle.std.specs.Prelude.{◌≡◌, ◌≢◌, ◌+◌, ◌*◌, ◌-◌, ◌^◌, ◌≤◌, ◌<◌, ◌||◌, min, true, [], ◌++◌, length, take, drop, IfOk, IfErr, IfSome};
+ghost use Rattle.std.specs.Prelude.{◌≡◌, ◌≢◌, ◌+◌, ◌*◌, ◌-◌, ◌^◌, ◌≤◌, ◌<◌, ◌||◌, min, true, [], ◌++◌, length, take};
+ghost use Rattle.std.specs.Prelude.{drop, IfOk, IfErr, IfSome};
 ghost use Rattle.std.specs.Char.{is_ascii_digit};
 ghost use Rattle.std.specs.List.{list_all, list_any, position};
 ghost use Rattle.std.specs.Option.{option_copied, option_map_or};
 ghost use Rattle.dec_text.specs.Decimal.{number, number_after, is_not_zero};
-ghost use Rattle.dec_text.specs.Reading.{reading_of, without_gaps, is_gap, IsInRange, IsNearTo, value_of, number_said_by, is_missing, is_e, without_front_gaps, without_back_gaps, mantissa_of, exponent_of, scaled_reading, lost_places, kept_places, kept_tenths, lost_digits, rounded_tenths};
+ghost use Rattle.dec_text.specs.Reading.{reading_of, without_gaps, is_gap, IsInRange, IsNearTo, value_of};
+ghost use Rattle.dec_text.specs.Reading.{number_said_by, is_missing, is_e, without_front_gaps, without_back_gaps};
+ghost use Rattle.dec_text.specs.Reading.{mantissa_of, exponent_of, scaled_reading, lost_places, kept_places};
+ghost use Rattle.dec_text.specs.Reading.{kept_tenths, lost_digits, rounded_tenths};
 
 use crate::reading::{DecFault, has_more, have_digits, split_point, split_sign};
 use fixed_mat::Reading;

@@ -8,7 +8,7 @@ use Rattle.plant_model.specs.Plant.{Sample}
 use Rattle.telem_csv.specs.Columns.{Columns}
 use Rattle.telem_csv.specs.Cutter.{Cutter, current, text_at, rows_owed, telemetry_owed}
 use Rattle.telem_csv.specs.Rows.{Rows, no_rows, refused_rows, row_of, then_rows, refused_at}
-use Rattle.telem_csv.specs.Telemetry.{no_header, header_of, then_header}
+use Rattle.telem_csv.specs.Telemetry.{no_header, has_header, header_of, then_header}
 use Rattle.telem_csv.specs.declared.fault.TelemFault.{TelemFault}
 use Rattle.telem_csv.specs.declared.fault.TelemWhy.TheVariants as why
 use Rattle.monitor_run.specs.Left.{left_of}
@@ -57,6 +57,30 @@ pub record TellsSame (old new : Cutter) (unread unread' : List ℕ) : Type 0 whe
   pub rows : (head : Columns) → rows_owed head old unread ≡ rows_owed head new unread'
   pub header : (inputs outputs : List (List ℕ)) → telemetry_owed inputs outputs old unread ≡ telemetry_owed inputs outputs new unread'
 
+-- a sample in front of rows
+abbrev pub with_sample : Sample → Rows → Rows
+with_sample s rows = record { samples = s ∷ rows.samples; refusal = rows.refusal }
+
+-- a telemetry has this header, and behind it the rows that are still owed
+abbrev pub TellsHeader : (inputs outputs : List (List ℕ)) → Columns → (old new : Cutter) → (unread unread' : List ℕ) → Type 0
+TellsHeader inputs outputs head old new unread unread' = telemetry_owed inputs outputs old unread ≡ has_header (rows_owed head new unread')
+
+-- a telemetry has no header, with this fault
+abbrev pub RefusesHeader : (inputs outputs : List (List ℕ)) → Cutter → TelemFault → (unread unread' : List ℕ) → Type 0
+RefusesHeader inputs outputs old fault unread unread' = telemetry_owed inputs outputs old unread ≡ no_header fault
+
+-- the rows that are owed begin with this sample
+abbrev pub TellsSample : Columns → Sample → (old new : Cutter) → (unread unread' : List ℕ) → Type 0
+TellsSample head s old new unread unread' = rows_owed head old unread ≡ with_sample s (rows_owed head new unread')
+
+-- no row is owed
+abbrev pub TellsNoRow : Columns → Cutter → (unread unread' : List ℕ) → Type 0
+TellsNoRow head old unread unread' = rows_owed head old unread ≡ no_rows
+
+-- the next row that is owed is refused with this fault
+abbrev pub RefusesRow : Columns → Cutter → TelemFault → (unread unread' : List ℕ) → Type 0
+RefusesRow head old fault unread unread' = rows_owed head old unread ≡ refused_rows fault
+
 -- a call that reads on in a slot: it stays attached, its count of faults does not fall, and nothing else changes
 pub record ReadsOn (slot : ℕ) (before after : ShelfState) : Type 0 where
   pub stays : (after.slot slot).attached ≡ (before.slot slot).attached
@@ -73,7 +97,3 @@ pub record GoesOn (c new : Cutter) (piece : List ℕ) : Type 0 where
   pub room : (current new).room ≡ (current c).room
   pub longer : 0 < length piece → length (current c).bytes < length (current new).bytes
   pub short : length (current new).bytes ≤ 4096
-
--- a sample in front of rows
-abbrev pub with_sample : Sample → Rows → Rows
-with_sample s rows = record { samples = s ∷ rows.samples; refusal = rows.refusal }

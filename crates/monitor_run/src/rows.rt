@@ -3,12 +3,12 @@ ghost use Rattle.std.specs.Prelude.{◌≡◌, ◌<◌, ◌≤◌, length, false
 ghost use Rattle.std.specs.Io.KnownBytes.{IsAtEnd};
 ghost use Rattle.plant_model.specs.Seen.{sample_of};
 ghost use Rattle.telem_csv.specs.Columns.{AreFor};
-ghost use Rattle.telem_csv.specs.Cutter.{current, rows_owed, telemetry_owed};
+ghost use Rattle.telem_csv.specs.Cutter.{current};
 ghost use Rattle.telem_csv.specs.Fed.{is_refusal};
-ghost use Rattle.telem_csv.specs.Rows.{no_rows, refused_rows, refused_at};
+ghost use Rattle.telem_csv.specs.Rows.{refused_at};
 ghost use Rattle.telem_csv.specs.Samples.{IsSampleFor};
-ghost use Rattle.telem_csv.specs.Telemetry.{no_header, has_header};
-ghost use Rattle.monitor_run.specs.Stream.{OnUnread, ReadsOn, HasReadCause, with_sample};
+ghost use Rattle.monitor_run.specs.Stream.{OnUnread, ReadsOn, HasReadCause};
+ghost use Rattle.monitor_run.specs.Stream.{TellsHeader, RefusesHeader, TellsSample, TellsNoRow, RefusesRow};
 
 use crate::stream::{Stream, StreamFault};
 use outside_io::Shelf;
@@ -30,14 +30,14 @@ pub fn find_header<F: Shelf>(
     requires attached { ((F.state shelf.old).slot 1).attached ≡ true }
     requires going { is_refusal stream.old.cutter.last ≡ false }
     requires few { length inputs.now ≤ 4 }
-    ensures header { IfOk result (λ h. OnUnread 1 stream.old (F.state shelf.old) stream.new (F.state shelf.new)
-        (λ u u'. telemetry_owed inputs.now outputs.now stream.old.cutter u ≡ has_header (rows_owed h stream.new.cutter u'))) }
+    ensures header { IfOk result (λ head. OnUnread 1 stream.old (F.state shelf.old) stream.new (F.state shelf.new)
+        (TellsHeader inputs.now outputs.now head stream.old.cutter stream.new.cutter)) }
     ensures counts { IfOk result (AreFor inputs.now outputs.now) }
     ensures going { IfOk result (λ h. is_refusal stream.new.cutter.last ≡ false) }
     ensures room { IfOk result (λ h. (current stream.new.cutter).room ≤ (current stream.old.cutter).room) }
     ensures refused { IfErr result (λ e. (fault : TelemFault) → e ≡ StreamFault.Refused fault
         → OnUnread 1 stream.old (F.state shelf.old) stream.new (F.state shelf.new)
-        (λ u _. telemetry_owed inputs.now outputs.now stream.old.cutter u ≡ no_header fault)) }
+        (RefusesHeader inputs.now outputs.now stream.old.cutter fault)) }
     ensures read { IfErr result (HasReadCause 1 (F.state shelf.old) (F.state shelf.new)) }
     ensures kept { ReadsOn 1 (F.state shelf.old) (F.state shelf.new) }
 {
@@ -72,17 +72,18 @@ pub fn next_row<F: Shelf>(
 ) -> Result<Option<Sample>, StreamFault>
     requires attached { ((F.state shelf.old).slot 1).attached ≡ true }
     requires going { is_refusal stream.old.cutter.last ≡ false }
-    ensures row { IfOk result (λ o. IfSome o (λ s. OnUnread 1 stream.old (F.state shelf.old) stream.new (F.state shelf.new)
-        (λ u u'. rows_owed head.now stream.old.cutter u ≡ with_sample (sample_of s) (rows_owed head.now stream.new.cutter u')))) }
+    ensures row { IfOk result (λ o. IfSome o (λ s.
+        OnUnread 1 stream.old (F.state shelf.old) stream.new (F.state shelf.new)
+        (TellsSample head.now (sample_of s) stream.old.cutter stream.new.cutter))) }
     ensures counts { IfOk result (λ o. IfSome o (IsSampleFor head.now)) }
     ensures going { IfOk result (λ o. IfSome o (λ s. is_refusal stream.new.cutter.last ≡ false)) }
     ensures fewer { IfOk result (λ o. IfSome o (λ s. (current stream.new.cutter).room < (current stream.old.cutter).room)) }
     ensures end { IfOk result (λ o. IfNone o (OnUnread 1 stream.old (F.state shelf.old) stream.new (F.state shelf.new)
-        (λ u _. rows_owed head.now stream.old.cutter u ≡ no_rows))) }
+        (TellsNoRow head.now stream.old.cutter))) }
     ensures at_end { IfOk result (λ o. IfNone o (IsAtEnd ((F.state shelf.new).slot 1).rest)) }
     ensures refused { IfErr result (λ e. (fault : TelemFault) → e ≡ StreamFault.Refused fault
         → OnUnread 1 stream.old (F.state shelf.old) stream.new (F.state shelf.new)
-        (λ u _. rows_owed head.now stream.old.cutter u ≡ refused_rows fault)) }
+        (RefusesRow head.now stream.old.cutter fault)) }
     ensures read { IfErr result (HasReadCause 1 (F.state shelf.old) (F.state shelf.new)) }
     ensures kept { ReadsOn 1 (F.state shelf.old) (F.state shelf.new) }
 {

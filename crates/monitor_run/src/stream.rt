@@ -1,5 +1,5 @@
 //! The telemetry as a stream of lines, read from its slot in pieces.
-ghost use Rattle.std.specs.Prelude.{◌≡◌, ◌≢◌, ℕ, ◌<◌, ◌≤◌, List, [], ◌++◌, length, false, true, IfOk, IfErr};
+ghost use Rattle.std.specs.Prelude.{◌≡◌, ◌≢◌, ℕ, ◌<◌, ◌≤◌, List, [], ◌++◌, length, false, true, IfOk, OnOk, IfErr};
 ghost use Rattle.std.specs.Io.KnownBytes.{IsAtEnd};
 ghost use Rattle.telem_csv.specs.Columns.{Columns};
 ghost use Rattle.telem_csv.specs.Cutter.{at_start, current, rows_owed, rows_after, telemetry_owed, telemetry_after};
@@ -71,14 +71,17 @@ impl Stream {
         requires attached { ((F.state shelf.old).slot slot).attached ≡ true }
         requires going { is_refusal self.old.cutter.last ≡ false }
         ensures line { IfOk result (λ b. b ≡ true
-            → OnUnread slot self.old (F.state shelf.old) self.new (F.state shelf.new) (TellsLine self.old.cutter self.new.cutter)) }
+            → OnUnread slot self.old (F.state shelf.old) self.new (F.state shelf.new)
+            (TellsLine self.old.cutter self.new.cutter)) }
         ensures cut { IfOk result (λ b. b ≡ true → self.new.cutter.last ≡ Fed.Line) }
         ensures fewer { IfOk result (λ b. b ≡ true → (current self.new.cutter).room < (current self.old.cutter).room) }
         ensures end { IfOk result (λ b. b ≡ false
-            → OnUnread slot self.old (F.state shelf.old) self.new (F.state shelf.new) (λ u _. TellsEnd self.old.cutter u)) }
+            → OnUnread slot self.old (F.state shelf.old) self.new (F.state shelf.new)
+            (λ unread _. TellsEnd self.old.cutter unread)) }
         ensures at_end { IfOk result (λ b. b ≡ false → IsAtEnd ((F.state shelf.new).slot slot).rest) }
         ensures refused { IfErr result (λ e. (fault : TelemFault) → e ≡ StreamFault.Refused fault
-            → OnUnread slot self.old (F.state shelf.old) self.new (F.state shelf.new) (λ u _. TellsRefusal self.old.cutter fault u)) }
+            → OnUnread slot self.old (F.state shelf.old) self.new (F.state shelf.new)
+            (λ unread _. TellsRefusal self.old.cutter fault unread)) }
         ensures read { IfErr result (HasReadCause slot (F.state shelf.old) (F.state shelf.new)) }
         ensures kept { ReadsOn slot (F.state shelf.old) (F.state shelf.new) }
     {
@@ -99,10 +102,11 @@ impl Stream {
         requires slot { slot < 3 }
         requires attached { ((F.state shelf.old).slot slot).attached ≡ true }
         ensures cutter { self.new.cutter ≡ self.old.cutter }
-        ensures bytes { IfOk result (λ b. OnUnread slot self.old (F.state shelf.old) self.new (F.state shelf.new) (λ u u'. u ≡ u')) }
+        ensures bytes { OnOk result
+            (OnUnread slot self.old (F.state shelf.old) self.new (F.state shelf.new) (λ before after. before ≡ after)) }
         ensures some { IfOk result (λ b. b ≡ true → 0 < length (left_of self.new)) }
         ensures none { IfOk result (λ b. b ≡ false
-            → OnUnread slot self.old (F.state shelf.old) self.new (F.state shelf.new) (λ _ u. u ≡ [])) }
+            → OnUnread slot self.old (F.state shelf.old) self.new (F.state shelf.new) (λ _ unread. unread ≡ [])) }
         ensures at_end { IfOk result (λ b. b ≡ false → IsAtEnd ((F.state shelf.new).slot slot).rest) }
         ensures read { IfErr result (HasReadCause slot (F.state shelf.old) (F.state shelf.new)) }
         ensures not_refused { IfErr result (λ e. (fault : TelemFault) → e ≢ StreamFault.Refused fault) }
@@ -120,8 +124,9 @@ impl Stream {
         requires attached { ((F.state shelf.old).slot slot).attached ≡ true }
         requires used { self.old.at ≡ self.old.end }
         ensures cutter { self.new.cutter ≡ self.old.cutter }
-        ensures bytes { IfOk result (λ b. BothTold ((F.state shelf.old).slot slot).rest ((F.state shelf.new).slot slot).rest
-            (λ r r'. r ≡ left_of self.new ++ r')) }
+        ensures bytes { OnOk result
+            (BothTold ((F.state shelf.old).slot slot).rest ((F.state shelf.new).slot slot).rest
+            (λ before after. before ≡ left_of self.new ++ after)) }
         ensures some { IfOk result (λ b. b ≡ true → 0 < length (left_of self.new)) }
         ensures none { IfOk result (λ b. b ≡ false → left_of self.new ≡ []) }
         ensures at_end { IfOk result (λ b. b ≡ false → IsAtEnd ((F.state shelf.new).slot slot).rest) }
@@ -168,7 +173,8 @@ impl Stream {
         ensures left { left_of self.new ≡ left_of self.old }
         ensures line { IfOk result (λ b. b ≡ true → self.new.cutter.last ≡ Fed.Line) }
         ensures end { IfOk result (λ b. b ≡ false → self.new.cutter.last ≡ Fed.Ended) }
-        ensures refused { IfErr result (λ e. e ≡ StreamFault.Refused (refused_at self.new.cutter.number (cause_of self.new.cutter.last))) }
+        ensures refused { IfErr result (λ e.
+            e ≡ StreamFault.Refused (refused_at self.new.cutter.number (cause_of self.new.cutter.last))) }
         ensures refusal { IfErr result (λ _. is_refusal self.new.cutter.last ≡ true) }
     {
         match self.cutter.finish() {

@@ -7,8 +7,15 @@ use observer_step::{Kept, Outcome};
 use outside_io::SureSink;
 use std::test::Fail;
 
-const SECOND: &[u8] =
-    b"sample 1\np 0 0 0.093069304 0.401980202\nh 0 0 0.193069304 0.301980202\ns 0 fits\np 1 0 -0.401980200 -0.093069304\nx 1 out 0\npossible 0\nverdict isolated 0\n";
+const SECOND: &[u8] = b"sample 1
+p 0 0 0.093069304 0.401980202
+h 0 0 0.193069304 0.301980202
+s 0 fits
+p 1 0 -0.401980200 -0.093069304
+x 1 out 0
+possible 0
+verdict isolated 0
+";
 
 fn half() -> ModelRec {
     let mut preds = ArrayVec::new();

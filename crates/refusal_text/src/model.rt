@@ -1,7 +1,8 @@
 //! Why a model file is refused.
 ghost use Rattle.std.specs.Prelude.{◌≡◌, ◌+◌, ◌≤◌, [], ◌++◌, codes, decimal, length};
 ghost use Rattle.arrayvec.specs.ArrayVec.{array_vec_len};
-ghost use Rattle.refusal_text.specs.Model.{index_text, field_place, path_text, count_place, decimal_cause, shape_cause, refused_at, model_refusal};
+ghost use Rattle.refusal_text.specs.Model.{index_text, field_place, path_text, count_place, decimal_cause, shape_cause};
+ghost use Rattle.refusal_text.specs.Model.{refused_at, model_refusal};
 
 use crate::pieces::{push_index, push_number, push_text};
 use dec_text::{DecFault, Line};

@@ -1,9 +1,13 @@
 //! Cuts a stream of bytes into lines.
 
-ghost use Rattle.std.specs.Prelude.{◌≡◌, ◌≤◌, min, ◌+◌, ◌-◌, ◌^◌, ◌<◌, ℕ, List, length, drop, take, ◌++◌, [], false, true, not, if◌then◌else◌, IfSome, Some, None, IsTrue, MatchOption};
+ghost use Rattle.std.specs.Prelude.{◌≡◌, ◌≤◌, min, ◌+◌, ◌-◌, ◌^◌, ◌<◌, ℕ, List, length, drop, take, ◌++◌, [], false};
+ghost use Rattle.std.specs.Prelude.{true, not, if◌then◌else◌, IfSome, Some, None, IsTrue, MatchOption};
 ghost use Rattle.std.specs.List.{list_any, position, before_first, position_or_len};
 ghost use Rattle.telem_csv.specs.Lines.{is_feed, is_return, most_line, IsLineText, without_return, text_of};
-ghost use Rattle.telem_csv.specs.Cutter.{Cutter, IsCutter, at_start, current, line_with, judged, taken_for, after_answer, size_refusal, judged_last, feed_answer, feed_taken, after_feed, finish_answer, after_finish, text_at, rows_owed, rows_after, telemetry_owed, telemetry_after};
+ghost use Rattle.telem_csv.specs.Cutter.{Cutter, IsCutter, at_start, current, line_with, judged, taken_for};
+ghost use Rattle.telem_csv.specs.Cutter.{after_answer, size_refusal, judged_last, feed_answer, feed_taken, after_feed};
+ghost use Rattle.telem_csv.specs.Cutter.{finish_answer, after_finish, text_at, rows_owed, rows_after, telemetry_owed};
+ghost use Rattle.telem_csv.specs.Cutter.{telemetry_after};
 ghost use Rattle.telem_csv.specs.Columns.{Columns};
 ghost use Rattle.telem_csv.specs.Fed.{is_refusal};
 ghost use Rattle.telem_csv.specs.Telemetry.{telemetry};
@@ -40,7 +44,8 @@ impl LineCutter {
     pub fn new(limit: u64) -> LineCutter
         requires { limit ≤ 2 ^ 62 }
         ensures value { result ≡ at_start limit }
-        ensures telemetry { (inputs outputs : List (List ℕ)) (bytes : List ℕ) → telemetry limit inputs outputs bytes ≡ telemetry_owed inputs outputs result bytes }
+        ensures telemetry { (inputs outputs : List (List ℕ)) (bytes : List ℕ)
+            → telemetry limit inputs outputs bytes ≡ telemetry_owed inputs outputs result bytes }
     {
         LineCutter {
             bytes: ArrayVec::new(),
@@ -81,8 +86,11 @@ impl LineCutter {
         ensures keeps { IsCutter self.new }
 
         // However the stream is cut, it says before the piece what the answer and the rest of the stream say.
-        ensures rows { is_refusal self.old.last ≡ false → (head : Columns) (rest : List ℕ) → rows_owed head self.old (piece.now ++ rest) ≡ rows_after head result.1 self.new (drop result.0 piece.now ++ rest) }
-        ensures telemetry { is_refusal self.old.last ≡ false → (inputs outputs : List (List ℕ)) (rest : List ℕ) → telemetry_owed inputs outputs self.old (piece.now ++ rest) ≡ telemetry_after inputs outputs result.1 self.new (drop result.0 piece.now ++ rest) }
+        ensures rows { is_refusal self.old.last ≡ false → (head : Columns) (rest : List ℕ)
+            → rows_owed head self.old (piece.now ++ rest) ≡ rows_after head result.1 self.new (drop result.0 piece.now ++ rest) }
+        ensures telemetry { is_refusal self.old.last ≡ false → (inputs outputs : List (List ℕ)) (rest : List ℕ)
+            → telemetry_owed inputs outputs self.old (piece.now ++ rest)
+            ≡ telemetry_after inputs outputs result.1 self.new (drop result.0 piece.now ++ rest) }
     {
         if self.last.is_refusal() {
             return (0, self.last);
@@ -99,8 +107,10 @@ impl LineCutter {
         ensures keeps { IsCutter self.new }
 
         // The stream says before its end what the answer says.
-        ensures rows { is_refusal self.old.last ≡ false → (head : Columns) → rows_owed head self.old [] ≡ rows_after head result self.new [] }
-        ensures telemetry { is_refusal self.old.last ≡ false → (inputs outputs : List (List ℕ)) → telemetry_owed inputs outputs self.old [] ≡ telemetry_after inputs outputs result self.new [] }
+        ensures rows { is_refusal self.old.last ≡ false → (head : Columns)
+            → rows_owed head self.old [] ≡ rows_after head result self.new [] }
+        ensures telemetry { is_refusal self.old.last ≡ false → (inputs outputs : List (List ℕ))
+            → telemetry_owed inputs outputs self.old [] ≡ telemetry_after inputs outputs result self.new [] }
     {
         if self.last.is_refusal() {
             return self.last;

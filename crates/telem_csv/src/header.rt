@@ -71,7 +71,8 @@ fn places_of(row: &ByteRecord, names: &Names, input: bool) -> Result<ArrayVec<us
 impl Header {
     /// Reads the header from a line of at most 4,096 bytes without line feed or carriage return, or answers `None` where it is blank.
     ///
-    /// The error is `NoColumn` or `TwiceColumn` of the first name, inputs before outputs, that stands in no field or in several; or `Memory`.
+    /// The error is `NoColumn` or `TwiceColumn` of the first name, inputs before outputs, that stands in no field or in several;
+    /// or `Memory`.
     pub fn read(
         alloc: Global,
         line: &[u8],

@@ -105,8 +105,8 @@ fn sample_in(head: &Header, fields: &Fields<'_>) -> Result<Sample, TelemWhy>
 
 /// Reads a row from a line of at most 4,096 bytes without line feed or carriage return, or answers `None` where it is blank.
 ///
-/// Its inputs are within a million units, in nano-units. The error is `Ragged`; else the first of `Field` and `NoInput` at an input, and then
-/// `Field` at an output; or `Memory`.
+/// Its inputs are within a million units, in nano-units. The error is `Ragged`; else the first of `Field` and `NoInput` at an input,
+/// and then `Field` at an output; or `Memory`.
 pub fn read_row(alloc: Global, head: &Header, line: &[u8]) -> Result<Option<Sample>, TelemWhy>
     requires { IsLineText line.now }
     ensures value { IsAnswerUnlessMemory (option_map sample_of) (row_of head.now line.now) result }

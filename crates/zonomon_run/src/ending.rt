@@ -11,8 +11,11 @@ use refusal_text::{model_refusal, telemetry_refusal};
 use telem_csv::TelemFault;
 
 /// How the program is called.
-const USAGE: &[u8] =
-    b"usage: zonomon run MODEL TELEMETRY\n       zonomon check MODEL TELEMETRY REPORT\n       zonomon demo SEED SAMPLES\n       zonomon help\n";
+const USAGE: &[u8] = b"usage: zonomon run MODEL TELEMETRY
+       zonomon check MODEL TELEMETRY REPORT
+       zonomon demo SEED SAMPLES
+       zonomon help
+";
 
 /// Why the program ends with another status than 0.
 #[derive(Drop)]
