@@ -128,6 +128,7 @@ impl<const R: usize, const C: usize, L: Limit> Mat<R, C, L> {
         requires { r < R }
         ensures { result ≡ tabulate C (λ l. entry C self.now r l) }
     {
+        let _ = self.entries();
         let mut cells = ArrayVec::new();
         for l in 0..C {
             cells.push(self.at(r, l));
