@@ -1,7 +1,7 @@
 use Rattle.std.proofs.Common.{◌≡◌, ◌≤◌, ◌*◌, [], unsigned_abs, arith, ◌∙◌, SFits, to_z-of_z}
 use Rattle.std.proofs.Math.Nat.{mul-le-mul_right}
 use Rattle.std.proofs.lemmas.List.Elements.{All-push}
-use Rattle.set_rules.specs.Columns.{entry, tabulate}
+use Rattle.set_rules.specs.Columns.{entry}
 use mir.Syntax.{w64}
 use Rattle.fixed_mat.proofs.Columns.{pushes, counted}
 use Rattle.fixed_mat.proofs.mat.Mat.row.Goals as goal
