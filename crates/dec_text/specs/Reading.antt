@@ -1,5 +1,7 @@
 -- What a field of the telemetry says: nothing, or a decimal with or without a power of ten, rounded to billionths of a unit.
-use Rattle.std.specs.Prelude.{ℕ, ◌+◌, ◌*◌, ◌/◌, ◌%◌, ◌^◌, ◌-◌, ◌≤◌, ℤ, pos, neg_ℤ, ◌+ℤ◌, ◌-ℤ◌, ◌*ℤ◌, ◌≤ℤ◌, unsigned_abs, Bool, true, false, ◌&&◌, ◌||◌, not, ◌==◌, nat_lt, if◌then◌else◌, List, [], ◌∷◌, ◌++◌, length, take, drop, codes, bytes_eq, Option, option_map, Result, Ok, Err}
+use Rattle.std.specs.Prelude.{ℕ, ◌+◌, ◌*◌, ◌/◌, ◌%◌, ◌^◌, ◌-◌, ◌≤◌, ℤ, pos, neg_ℤ, ◌+ℤ◌, ◌-ℤ◌, ◌*ℤ◌, ◌≤ℤ◌, unsigned_abs, Bool}
+use Rattle.std.specs.Prelude.{true, false, ◌&&◌, ◌||◌, not, ◌==◌, nat_lt, if◌then◌else◌, List, [], ◌∷◌, ◌++◌, length, take, drop}
+use Rattle.std.specs.Prelude.{codes, bytes_eq, Option, option_map, Result, Ok, Err}
 use Rattle.std.specs.Int.{int_div_euclid}
 use Rattle.std.specs.List.{list_any, position}
 use Rattle.std.specs.Option.{option_map_or}
@@ -161,4 +163,5 @@ lost_digits whole fraction lost behind = drop (length whole - lost) whole ++ dro
 -- so many tenths, and a part of one more where it is fine; a half is rounded upwards
 abbrev pub rounded_tenths : Bool → ℕ → Bool → Result Reading DecFault
 rounded_tenths negative tenths is_fine =
-    in_range (signed negative ((tenths + (if negative && not is_fine then 4 else 5)) / 10)) (if is_fine || not ((tenths % 10) == 0) then 1 else 0)
+    in_range (signed negative ((tenths + (if negative && not is_fine then 4 else 5)) / 10))
+        (if is_fine || not ((tenths % 10) == 0) then 1 else 0)

@@ -1,5 +1,6 @@
 //! Why a model is excluded at a sample.
-ghost use Rattle.std.specs.Prelude.{◌≡◌, ℕ, ◌<◌, ◌≤◌, ◌++◌, true, length, take, Some, None, option_map, if◌then◌else◌, slice_index_or, pos, unsigned_abs};
+ghost use Rattle.std.specs.Prelude.{◌≡◌, ℕ, ◌<◌, ◌≤◌, ◌++◌, true, length, take, Some, None, option_map, if◌then◌else◌};
+ghost use Rattle.std.specs.Prelude.{slice_index_or, pos, unsigned_abs};
 ghost use Rattle.farkas_check.specs.Multipliers.{are_multipliers, are_small};
 
 /// The most multipliers: one for each row that can be kept.

@@ -1,6 +1,7 @@
 //! The coefficients of a row, whose magnitudes add up to a bounded sum.
 
-ghost use Rattle.std.specs.Prelude.{◌≡◌, ℕ, ◌+◌, ◌<◌, ◌≤◌, ◌↔◌, [], ◌∷◌, ◌++◌, length, unsigned_abs, pos, ◌*ℤ◌, ◌≤ℤ◌, IsErr, IfErr, OnOk, OnErr};
+ghost use Rattle.std.specs.Prelude.{◌≡◌, ℕ, ◌+◌, ◌<◌, ◌≤◌, ◌↔◌, [], ◌∷◌, ◌++◌, length, unsigned_abs, pos, ◌*ℤ◌, ◌≤ℤ◌, IsErr};
+ghost use Rattle.std.specs.Prelude.{IfErr, OnOk, OnErr};
 ghost use Rattle.std.specs.List.{sum_by};
 ghost use Rattle.set_rules.specs.Columns.{at};
 ghost use Rattle.set_rules.specs.Limits.{row_limit, most_columns};
@@ -95,7 +96,8 @@ impl Coefs {
         Ok(())
     }
 
-    /// Puts row `r` of `m` times each column, rounded, in the place of all coefficients, in the width of `W`, in which the products and the sum of their rounded magnitudes fit;
+    /// Puts row `r` of `m` times each column, rounded, in the place of all coefficients, in the width of
+    /// `W`, in which the products and the sum of their rounded magnitudes fit;
     /// gives the sum of what the rounding leaves.
     pub fn fill<W: Whole, const R: usize, const N: usize>(
         &mut self,

@@ -1,6 +1,7 @@
 //! Matrices of nano-units, whose limit is a marker type's constant.
 
-ghost use Rattle.std.specs.Prelude.{◌≡◌, ℕ, ◌+◌, ◌*◌, ◌<◌, ◌≤◌, ◌↔◌, pos, unsigned_abs, replicate, IsErr, IfErr, OnOk, OnErr, slice_set, length};
+ghost use Rattle.std.specs.Prelude.{◌≡◌, ℕ, ◌+◌, ◌*◌, ◌<◌, ◌≤◌, ◌↔◌, pos, unsigned_abs, replicate, IsErr, IfErr, OnOk, OnErr};
+ghost use Rattle.std.specs.Prelude.{slice_set, length};
 ghost use Rattle.std.specs.List.{All};
 ghost use Rattle.std.proofs.Common.{arith};
 ghost use Rattle.set_rules.specs.Columns.{entry, tabulate};

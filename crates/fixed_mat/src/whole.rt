@@ -8,7 +8,8 @@ ghost use Rattle.set_rules.specs.Round.{rnd as rnd_of, residue as residue_of};
 
 use crate::round::{narrow_rounding, rounded};
 
-/// A whole number of a width of its own, whose magnitude is at most `limit`. A pass that is generic over it is written once for 64 and for 128 bits.
+/// A whole number of a width of its own, whose magnitude is at most `limit`. A pass that
+/// is generic over it is written once for 64 and for 128 bits.
 pub trait Whole: Copy + Drop {
     ghost value: { Self → ℤ };
 

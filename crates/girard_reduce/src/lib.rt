@@ -1,4 +1,5 @@
-//! Fewer columns for a set, after Girard 2005: the columns whose one-norm exceeds their maximum-norm least are replaced by a box that holds them.
+//! Fewer columns for a set, after Girard 2005: the columns whose one-norm exceeds their
+//! maximum-norm least are replaced by a box that holds them.
 #![tactic(auto)]
 
 mod cut;

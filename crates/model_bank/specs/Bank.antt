@@ -26,7 +26,8 @@ pub record Bank : Type 0 where
 abbrev pub HasPlantOf : ℕ → ℕ → Member → Type 0
 HasPlantOf inputs outputs m = (m.plant.inputs ≡ inputs) × (m.plant.outputs ≡ outputs)
 
--- at most 4 inputs, 1 to 6 outputs, 1 to 16 models of these counts; the last inputs are within their limit, and as many as there are once there was a sample
+-- at most 4 inputs, 1 to 6 outputs, 1 to 16 models of these counts; the last inputs are
+-- within their limit, and as many as there are once there was a sample
 pub record IsBank (bank : Bank) : Type 0 where
   pub few_inputs : bank.inputs ≤ 4
   pub some_output : 1 ≤ bank.outputs

@@ -12,4 +12,5 @@ RecordsSample s bank seen = (plants : List Plant) (samples : List Sample) → Ba
 
 -- the bank then stands for the samples with this one added
 abbrev pub StandsLonger : Sample → Bank → Bank → Type 0
-StandsLonger s old new = (plants : List Plant) (samples : List Sample) → BankStands plants samples old → BankStands plants (samples ++ s ∷ []) new
+StandsLonger s old new = (plants : List Plant) (samples : List Sample) → BankStands plants samples old
+    → BankStands plants (samples ++ s ∷ []) new

@@ -1,4 +1,5 @@
--- What a sample makes of the members of a bank, from what they hold. `u` are the inputs of the sample before, of which the first sample has none.
+-- What a sample makes of the members of a bank, from what they hold. `u` are the inputs
+-- of the sample before, of which the first sample has none.
 use Rattle.std.specs.Prelude.{ℕ, ◌+◌, ℤ, Bool, false, List, [], ◌∷◌, Option, Some, None, option_map, is_none, if◌then◌else◌}
 use Rattle.farkas_check.specs.Certificate.{Certificate, by_out}
 use Rattle.set_rules.specs.Zono.{Zono}

@@ -20,7 +20,8 @@ use Rattle.monitor_run.specs.declared.stream.StreamFault.TheVariants as stream
 
 -- the lines of a report behind its head
 abbrev pub rows_lines : List Plant → Rows → List Line
-rows_lines ps rows = samples_lines zonotope_observer ps rows.samples (length rows.samples) ++ last_lines (length rows.samples) (is_none rows.refusal)
+rows_lines ps rows = samples_lines zonotope_observer ps rows.samples (length rows.samples)
+    ++ last_lines (length rows.samples) (is_none rows.refusal)
 
 -- the samples taken, and then those of the rows to come
 abbrev pub behind : List Sample → Rows → Rows

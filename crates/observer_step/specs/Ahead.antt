@@ -11,7 +11,8 @@ use Rattle.observer_step.specs.declared.ahead.FirstReading.{FirstReading}
 abbrev pub NoneBefore : Sample → ℕ → Type 0
 NoneBefore s m = (o : ℕ) → o < m → reading_at s o ≡ None
 
--- among the first m outputs this one has the first reading, and its row on the symbols of z has these coefficients and this right side, which is within its limit
+-- among the first m outputs this one has the first reading, and its row on the symbols of z has
+-- these coefficients and this right side, which is within its limit
 pub record HasFirst (p : Plant) (s : Sample) (z : Zono) (coefficients : List ℤ) (m output : ℕ) (right : ℤ) : Type 0 where
   pub below : output < m
   pub none_before : NoneBefore s output

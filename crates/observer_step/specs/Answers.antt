@@ -1,5 +1,6 @@
 -- What the definitions say of one model at a sample.
-use Rattle.std.specs.Prelude.{◌≡◌, ℕ, zero, suc, ℤ, Bool, true, ◌&&◌, is_none, List, [], ◌∷◌, ◌++◌, length, Option, None, option_map, if◌then◌else◌}
+use Rattle.std.specs.Prelude.{◌≡◌, ℕ, zero, suc, ℤ, Bool, true, ◌&&◌, is_none, List, [], ◌∷◌, ◌++◌, length, Option, None}
+use Rattle.std.specs.Prelude.{option_map, if◌then◌else◌}
 use Rattle.farkas_check.specs.Certificate.{Certificate, by_out}
 use Rattle.set_rules.specs.Zono.{Zono}
 use Rattle.plant_model.specs.Plant.{Plant, Sample, sample_at}
@@ -13,7 +14,8 @@ pub record Answer : Type 0 where
   pub certificate : Option Certificate
   pub hulls : List (ℤ × ℤ)
 
--- the rules by which a set follows a plant through its telemetry: the predicted and the corrected set at a sample, and whether the plant was widened there
+-- the rules by which a set follows a plant through its telemetry: the predicted and the
+-- corrected set at a sample, and whether the plant was widened there
 pub record Observer : Type 0 where
   pub predicted : Plant → List Sample → ℕ → Zono
   pub corrected : Plant → List Sample → ℕ → Zono
@@ -41,7 +43,9 @@ unfoldable pub is_live : Observer → Plant → List Sample → ℕ → Bool
 is_live o p samples zero = true
 is_live o p samples (suc k) = is_live o p samples k && is_none (certificate_at o p samples k)
 
--- where e is ready for the sample s after some samples, the certificate is the one that is due there; and if there is none, e' is corrected by s
+-- where e is ready for the sample s after some samples, the certificate is the one that
+-- is due there; and if there is none, e' is corrected by s
 abbrev pub Judges : Plant → Sample → Estimate → Estimate → Option Certificate → Type 0
 Judges p s e e' cert = (samples : List Sample) → StandsReady p samples e
-    → (cert ≡ certificate_at zonotope_observer p (samples ++ s ∷ []) (length samples)) × (cert ≡ None → StandsCorrected p (samples ++ s ∷ []) e')
+    → (cert ≡ certificate_at zonotope_observer p (samples ++ s ∷ []) (length samples))
+      × (cert ≡ None → StandsCorrected p (samples ++ s ∷ []) e')

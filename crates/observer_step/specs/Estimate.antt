@@ -1,5 +1,6 @@
 -- The set that follows a plant through its telemetry, in turns of prediction and correction (after Combastel 2003).
-use Rattle.std.specs.Prelude.{◌≡◌, ◌≤◌, ◌+◌, ◌*◌, ◌-◌, ℕ, zero, suc, List, length, replicate, Option, Some, None, ℤ, pos, ◌+ℤ◌, Bool, false, not, if◌then◌else◌}
+use Rattle.std.specs.Prelude.{◌≡◌, ◌≤◌, ◌+◌, ◌*◌, ◌-◌, ℕ, zero, suc, List, length, replicate, Option, Some, None, ℤ, pos, ◌+ℤ◌}
+use Rattle.std.specs.Prelude.{Bool, false, not, if◌then◌else◌}
 use Rattle.set_rules.specs.Columns.{at}
 use Rattle.set_rules.specs.Zono.{Zono}
 use Rattle.set_rules.specs.Rows.{Row}
@@ -89,7 +90,8 @@ image_columns = plain_columns + 2 * most_states
 abbrev pub HasRoom : Estimate → Type 0
 HasRoom e = length e.plain.columns ≤ image_columns
 
--- where e is corrected by samples that end with the inputs u, e' has the set predicted from there, and the test says whether that is the state box
+-- where e is corrected by samples that end with the inputs u, e' has the set predicted
+-- from there, and the test says whether that is the state box
 abbrev pub LeadsOn : Plant → List ℤ → Estimate → Estimate → Bool → Type 0
 LeadsOn p u e e' test = (samples : List Sample) → StandsCorrected p samples e → (sample_at samples (length samples - 1)).inputs ≡ u
     → StandsReady p samples e' × (test ≡ is_widened p samples (length samples))

@@ -6,7 +6,8 @@ use Rattle.set_rules.specs.Zono.{Zono, Inside}
 use Rattle.set_rules.specs.Image.{IsStep}
 use Rattle.set_rules.specs.Strip.{Reads}
 use Rattle.set_rules.specs.Box.{hull, IsBetween}
-use Rattle.plant_model.specs.Plant.{Plant, Sample, Trajectory, states_at, sample_at, reading_at, shift_of, through_of, output_row, Obeys, Consistent}
+use Rattle.plant_model.specs.Plant.{Plant, Sample, Trajectory, states_at, sample_at, reading_at, shift_of, through_of, output_row}
+use Rattle.plant_model.specs.Plant.{Obeys, Consistent}
 use Rattle.observer_step.specs.Predicted.{first_set, due}
 use Rattle.observer_step.specs.Estimate.{predict, correct, predicted_set, corrected_set}
 

@@ -9,7 +9,8 @@ ghost use Rattle.farkas_check.specs.Certificate.{by_out};
 ghost use Rattle.plant_model.specs.Plant.{AllWithinLimit};
 ghost use Rattle.plant_model.specs.Seen.{sample_of};
 ghost use Rattle.observer_step.specs.Predicted.{first_set, predicted_outs, due};
-ghost use Rattle.observer_step.specs.Estimate.{leaves_range, predict as predict_of, correct as correct_of, state_box as state_box_of, image_columns, StandsReady, LeadsOn};
+ghost use Rattle.observer_step.specs.Estimate.{leaves_range, predict as predict_of, correct as correct_of};
+ghost use Rattle.observer_step.specs.Estimate.{state_box as state_box_of, image_columns, StandsReady, LeadsOn};
 ghost use Rattle.observer_step.specs.Answers.{Judges};
 ghost use Rattle.observer_step.specs.Seen.{was_widened, certificate_in, is_printable_interval};
 
@@ -25,7 +26,8 @@ use plant_model::{Plant, Sample};
 use std::marker::Model;
 use zono_set::{Refusals, Zono};
 
-/// The set in which the state of a plant of `N` states lies at a sample: predicted by its image, corrected by its readings (after Combastel 2003).
+/// The set in which the state of a plant of `N` states lies at a sample: predicted by
+/// its image, corrected by its readings (after Combastel 2003).
 #[derive(Drop)]
 pub struct Est<const N: usize> {
     plain: Zono<N>,
@@ -55,7 +57,8 @@ impl<const N: usize> Est<N> {
         }
     }
 
-    /// One sample on with the inputs `u` of the last sample, in nano-units. `Widened` where the image leaves the range: the set is then the state box.
+    /// One sample on with the inputs `u` of the last sample, in nano-units. `Widened` where
+    /// the image leaves the range: the set is then the state box.
     pub fn predict(&mut self, plant: &Plant<N>, u: &ArrayVec<i128, 4>) -> Kept
         requires count { length u.now.items ≡ plant.now.inputs }
         requires small { AllWithinLimit input_limit u.now.items }
@@ -86,7 +89,8 @@ impl<const N: usize> Est<N> {
         self.plain.hull(i)
     }
 
-    /// What the sample says of the model: the due certificate names the least output that misses. Where it fits, the set takes each reading in order, and else it stays.
+    /// What the sample says of the model: the due certificate names the least output that misses.
+    /// Where it fits, the set takes each reading in order, and else it stays.
     pub fn correct(&mut self, plant: &Plant<N>, sample: &Sample) -> Outcome
         requires inputs { length sample.now.u.items ≡ plant.now.inputs }
         requires outputs { length sample.now.y.items ≡ plant.now.outputs }
@@ -99,7 +103,8 @@ impl<const N: usize> Est<N> {
         self.judge(plant, sample, &mut room).outcome
     }
 
-    /// What `outs` and `correct` say of the sample, by one computation in room that is lent: the row of the first reading gives its predicted interval too.
+    /// What `outs` and `correct` say of the sample, by one computation in room that is lent:
+    /// the row of the first reading gives its predicted interval too.
     pub fn judge(&mut self, plant: &Plant<N>, sample: &Sample, room: &mut Room) -> Judgement
         requires inputs { length sample.now.u.items ≡ plant.now.inputs }
         requires outputs { length sample.now.y.items ≡ plant.now.outputs }

@@ -3,7 +3,8 @@
 use fixed_mat::Coefs;
 use zono_set::Rest;
 
-/// Room in which estimates take the readings of a sample, so that no sample makes it anew. One owner lends it to all of them, and nothing in it lasts from one to the next.
+/// Room in which estimates take the readings of a sample, so that no sample makes it anew. One owner
+/// lends it to all of them, and nothing in it lasts from one to the next.
 #[derive(Drop)]
 pub struct Room {
     /// For the coefficients of the row of a reading.

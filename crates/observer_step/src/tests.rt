@@ -13,7 +13,8 @@ const ONE: i128 = 1_000_000_000;
 
 type Ends = (i128, i128);
 
-/// A plant of one state and one output, with as many disturbances as inputs: the inputs are added, disturbances add 0.2 units, and it is read with noise within 0.1 units.
+/// A plant of one state and one output, with as many disturbances as inputs: the inputs are added,
+/// disturbances add 0.2 units, and it is read with noise within 0.1 units.
 fn plant(inputs: usize, a: i128, radius: i128) -> Result<Plant<1>, Fail> {
     let mut parts = PlantParts {
         inputs,

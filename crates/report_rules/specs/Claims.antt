@@ -64,4 +64,5 @@ MissesTold samples k None (line ∷ lines) = MissesTold samples k None lines
 -- what an observer has to say rightly at the samples before n: its hulls hold every trajectory, and where an output is due there is none
 pub record IsSoundBefore (o : Observer) (samples : List Sample) (n : ℕ) : Type 0 where
   pub hulls_hold : (p : Plant) (k : ℕ) → k < n → (x : ℕ) → x < p.states → HoldsEvery p samples k x (hull_of (o.corrected p samples k) x)
-  pub due_has_none : (p : Plant) (k : ℕ) → k < n → (output : ℕ) → due p (sample_at samples k) (o.predicted p samples k) ≡ Some output → ¬ Consistent p samples k
+  pub due_has_none : (p : Plant) (k : ℕ) → k < n → (output : ℕ)
+      → due p (sample_at samples k) (o.predicted p samples k) ≡ Some output → ¬ Consistent p samples k

@@ -1,12 +1,14 @@
 -- The lines of a report and their one spelling.
-use Rattle.std.specs.Prelude.{ℕ, ◌^◌, ℤ, Bool, true, ◌&&◌, nat_le, if◌then◌else◌, List, [], ◌∷◌, ◌++◌, flat_map, codes, decimal, unsigned_abs}
+use Rattle.std.specs.Prelude.{ℕ, ◌^◌, ℤ, Bool, true, ◌&&◌, nat_le, if◌then◌else◌, List, [], ◌∷◌, ◌++◌, flat_map, codes, decimal}
+use Rattle.std.specs.Prelude.{unsigned_abs}
 use Rattle.std.specs.Fmt.{signed_decimal}
 use Rattle.dec_text.specs.Printed.{printed}
 use Rattle.farkas_check.specs.Certificate.{Certificate, by_out, by_rows}
 use Rattle.isolate_core.specs.declared.verdict.Verdict.{Verdict as Judgement}
 use Rattle.isolate_core.specs.declared.verdict.Verdict.TheVariants as judged
 
--- the title; a model's name; the start of a sample; the predicted interval of an output, by model and output; an exclusion; the hull of a state, by
+-- the title; a model's name; the start of a sample; the predicted interval of an output,
+-- by model and output; an exclusion; the hull of a state, by
 -- model and state; whether a model fits; the possible models; the verdict; the number of samples
 pub data Line : Type 0 where
   title : Line

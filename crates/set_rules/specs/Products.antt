@@ -1,4 +1,5 @@
--- A row of a matrix times columns, and a multiple of a row taken from a state, each a unit times too large; and what rounding makes of these.
+-- A row of a matrix times columns, and a multiple of a row taken from a state, each a
+-- unit times too large; and what rounding makes of these.
 use Rattle.std.specs.Prelude.{ℕ, ◌*◌, List, length, ℤ, pos, ◌+ℤ◌, ◌-ℤ◌, ◌*ℤ◌, unsigned_abs, sum_by}
 use Rattle.set_rules.specs.Sum.{total, magnitude}
 use Rattle.set_rules.specs.Columns.{at, entry, column_entry, row_magnitude, tabulate}

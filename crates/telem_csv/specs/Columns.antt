@@ -1,5 +1,6 @@
 -- The header of a telemetry file: the place of each column.
-use Rattle.std.specs.Prelude.{◌≡◌, ◌<◌, ◌≤◌, ℕ, ◌+◌, All, Bool, true, false, if◌then◌else◌, List, [], ◌∷◌, length, bytes_eq, Result, Ok, Err}
+use Rattle.std.specs.Prelude.{◌≡◌, ◌<◌, ◌≤◌, ℕ, ◌+◌, All, Bool, true, false, if◌then◌else◌, List, [], ◌∷◌, length, bytes_eq}
+use Rattle.std.specs.Prelude.{Result, Ok, Err}
 use Rattle.dec_text.specs.Steps.{◌>>=◌, each_from}
 use Rattle.dec_text.specs.Reading.{without_gaps}
 use Rattle.telem_csv.specs.declared.fault.Col.{Col}

@@ -1,5 +1,6 @@
 -- A cutter in the middle of a stream, and what it has still to tell of the telemetry.
-use Rattle.std.specs.Prelude.{◌≡◌, ◌≤◌, ℕ, ◌+◌, ◌-◌, ◌^◌, min, nat_lt, nat_le, false, ◌&&◌, if◌then◌else◌, Option, Some, None, List, [], ◌∷◌, ◌++◌, length}
+use Rattle.std.specs.Prelude.{◌≡◌, ◌≤◌, ℕ, ◌+◌, ◌-◌, ◌^◌, min, nat_lt, nat_le, false, ◌&&◌, if◌then◌else◌, Option, Some, None}
+use Rattle.std.specs.Prelude.{List, [], ◌∷◌, ◌++◌, length}
 use Rattle.std.specs.List.{list_any, before_first}
 use Rattle.telem_csv.specs.Columns.{Columns}
 use Rattle.telem_csv.specs.Fed.{is_refusal, cause_of, fed_by}

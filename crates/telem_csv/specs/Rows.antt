@@ -1,5 +1,6 @@
 -- A row of a telemetry file, and the rows up to the first that is refused.
-use Rattle.std.specs.Prelude.{ℕ, ◌+◌, ◌-◌, ℤ, unsigned_abs, true, false, ◌==◌, nat_le, List, [], ◌∷◌, length, slice_index_or, Option, Some, None, Result, Ok, Err}
+use Rattle.std.specs.Prelude.{ℕ, ◌+◌, ◌-◌, ℤ, unsigned_abs, true, false, ◌==◌, nat_le, List, [], ◌∷◌, length, slice_index_or}
+use Rattle.std.specs.Prelude.{Option, Some, None, Result, Ok, Err}
 use Rattle.fixed_mat.specs.declared.reading.Reading.{Reading}
 use Rattle.fixed_mat.specs.declared.reading.Reading.TheVariants.{Missing, Value}
 use Rattle.dec_text.specs.Steps.{◌>>=◌, passing, each_from}

@@ -5,6 +5,9 @@ use Rattle.set_rules.specs.Columns.{at, entry}
 use Rattle.set_rules.specs.Round.{unit}
 use Rattle.set_rules.specs.Zono.{Zono, reach}
 
--- no image reaches further than this in state i, in units of a unit: the reach of the set through row i, what the inputs add, and what noise and rounding add
+-- no image reaches further than this in state i, in units of a unit: the reach of the set
+-- through row i, what the inputs add, and what noise and rounding add
 abbrev pub reach_bound : (n w : ℕ) (a shift e : List ℤ) → Zono → ℕ → ℤ
-reach_bound n w a shift e z i = total n (λ l. magnitude (entry n a i l) *ℤ reach z l) +ℤ magnitude (at shift i) +ℤ pos unit *ℤ (pos (length z.columns + 2) +ℤ total w (λ t. magnitude (entry 8 e i t)))
+reach_bound n w a shift e z i =
+    total n (λ l. magnitude (entry n a i l) *ℤ reach z l)
+    +ℤ magnitude (at shift i) +ℤ pos unit *ℤ (pos (length z.columns + 2) +ℤ total w (λ t. magnitude (entry 8 e i t)))

@@ -115,7 +115,8 @@ pub fn rounded_share(gain: i64, v: i128) -> Rounding
     rounded(i128::from(gain) * v)
 }
 
-/// Writes to `rest` what is left of row `i` of the columns once a gain takes its share of the row; gives the sum of the magnitudes, and of what the rounding leaves.
+/// Writes to `rest` what is left of row `i` of the columns once a gain takes its share of the
+/// row; gives the sum of the magnitudes, and of what the rounding leaves.
 /// Where that sum is past `RANGE`, `rest` may hold anything.
 pub fn take_shares<const N: usize>(
     cols: &Cols<N>,

@@ -1,6 +1,7 @@
 //! What a set is lent while it takes a row. None of it is part of the set's value, nor of what any clause promises.
 
-/// Room for what is left of the entries of a set once gains take their shares of a row, state by state: one owner lends it for row after row.
+/// Room for what is left of the entries of a set once gains take their shares of a
+/// row, state by state: one owner lends it for row after row.
 #[derive(Drop)]
 pub struct Rest {
     pub(crate) entries: [[i64; 128]; 8],

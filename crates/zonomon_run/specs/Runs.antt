@@ -87,12 +87,14 @@ IsHelpStatus n = (n ≡ 0) ⊎ ((n ≡ 5) ⊎ (n ≡ 6))
 -- the model file is refused with a fault, and that was told
 abbrev pub ModelRefused : List ℕ → Outside → Outside → Type 0
 ModelRefused model before after =
-    (fault : ModelFault) × OnFile before.shelf model (λ m. model_refusal m ≡ Some fault) × Tells (model_refusal_text fault) before.err after.err
+    (fault : ModelFault) × OnFile before.shelf model (λ m. model_refusal m ≡ Some fault)
+        × Tells (model_refusal_text fault) before.err after.err
 
 -- the telemetry is refused with a fault, and that was told
 abbrev pub TelemetryRefused : (model telemetry : List ℕ) → Outside → Outside → Type 0
 TelemetryRefused model telemetry before after =
-    (fault : TelemFault) × OnFiles before.shelf model telemetry (λ f. telemetry_refusal f ≡ Some fault) × Tells (telemetry_refusal_text fault) before.err after.err
+    (fault : TelemFault) × OnFiles before.shelf model telemetry (λ f. telemetry_refusal f ≡ Some fault)
+        × Tells (telemetry_refusal_text fault) before.err after.err
 
 -- what the words `run MODEL TELEMETRY` do. Status 6 is want of memory
 pub record Monitors (model telemetry : List ℕ) (before : Outside) (result : ℕ) (after : Outside) : Type 0 where
@@ -101,7 +103,8 @@ pub record Monitors (model telemetry : List ℕ) (before : Outside) (result : �
   pub model_refuses : OnFile before.shelf model (λ m. IsSome (model_refusal m)
       → ¬ Rose (before.shelf.slot 0).faults (after.shelf.slot 0).faults → (result ≡ 2) ⊎ (result ≡ 6))
   pub telemetry_refused : result ≡ 3 → TelemetryRefused model telemetry before after
-  pub telemetry_refuses : OnFiles before.shelf model telemetry (λ f. IsSome (telemetry_refusal f) → NoneRose before after → (result ≡ 3) ⊎ (result ≡ 6))
+  pub telemetry_refuses : OnFiles before.shelf model telemetry (λ f. IsSome (telemetry_refusal f)
+      → NoneRose before after → (result ≡ 3) ⊎ (result ≡ 6))
   pub read : result ≡ 4 → ModelUnread model before after ⊎ TelemetryUnread telemetry before after
   pub write : result ≡ 5 → Rose before.out.faults after.out.faults
   pub complete : OnFiles before.shelf model telemetry (λ f. IsAccepted f → NoneRose before after → (result ≡ 0) ⊎ (result ≡ 6))

@@ -15,7 +15,8 @@ pub data Asked : Type 0 where
 
 -- so many decimal digits at most, of a number between these
 abbrev pub is_number : ℕ → ℕ → ℕ → List ℕ → Bool
-is_number most low high text = nat_lt 0 (length text) && (nat_le (length text) most && (list_all is_ascii_digit text && (nat_le low (number text) && nat_le (number text) high)))
+is_number most low high text = nat_lt 0 (length text) && (nat_le (length text) most
+    && (list_all is_ascii_digit text && (nat_le low (number text) && nat_le (number text) high)))
 
 abbrev pub is_seed : List ℕ → Bool
 is_seed text = is_number 10 0 4_294_967_295 text
@@ -24,7 +25,8 @@ abbrev pub is_sample_count : List ℕ → Bool
 is_sample_count text = is_number 5 1 10_000 text
 
 abbrev pub two_words : List ℕ → List ℕ → List ℕ → Asked
-two_words verb a b = if bytes_eq verb (codes "run") then monitor a b else (if bytes_eq verb (codes "demo") && (is_seed a && is_sample_count b) then later else faulty)
+two_words verb a b = if bytes_eq verb (codes "run") then monitor a b
+    else (if bytes_eq verb (codes "demo") && (is_seed a && is_sample_count b) then later else faulty)
 
 abbrev pub one_word : List ℕ → Asked
 one_word verb = if bytes_eq verb (codes "help") then helps else faulty

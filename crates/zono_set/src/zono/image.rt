@@ -1,6 +1,7 @@
 //! The image of a set under one step of a plant, in place.
 
-ghost use Rattle.std.specs.Prelude.{◌≡◌, ℕ, ◌+◌, ◌*◌, ◌<◌, ◌≤◌, ◌^◌, length, ◌++◌, ℤ, pos, ◌+ℤ◌, ◌*ℤ◌, ◌≤ℤ◌, unsigned_abs, IsTrue, IfErr, OnOk, OnErr, slice_index_or, slice_set};
+ghost use Rattle.std.specs.Prelude.{◌≡◌, ℕ, ◌+◌, ◌*◌, ◌<◌, ◌≤◌, ◌^◌, length, ◌++◌, ℤ, pos, ◌+ℤ◌, ◌*ℤ◌, ◌≤ℤ◌, unsigned_abs};
+ghost use Rattle.std.specs.Prelude.{IsTrue, IfErr, OnOk, OnErr, slice_index_or, slice_set};
 ghost use Rattle.set_rules.specs.Sum.{total, magnitude};
 ghost use Rattle.set_rules.specs.Columns.{at, entry, column_entry, tabulate};
 ghost use Rattle.set_rules.specs.Round.{rnd as rnd_of, residue as residue_of, ceil_s as ceil_of};
@@ -170,7 +171,8 @@ fn move_centre<const N: usize>(
     centre: &mut Mat<N, 1, Range>,
 ) -> ArrayVec<i128, 8>
     requires small { N ≤ most_states }
-    requires fits { (i : ℕ) → i < N → unsigned_abs (rnd_of (total N (λ l. entry N a.now i l *ℤ at centre.old l) +ℤ at shift.now i)) ≤ range }
+    requires fits { (i : ℕ) → i < N →
+        unsigned_abs (rnd_of (total N (λ l. entry N a.now i l *ℤ at centre.old l) +ℤ at shift.now i)) ≤ range }
     ensures moved { centre.new ≡ tabulate N (λ i. rnd_of (total N (λ l. entry N a.now i l *ℤ at centre.old l) +ℤ at shift.now i)) }
     ensures left { result.items ≡ tabulate N (λ i. residue_of (total N (λ l. entry N a.now i l *ℤ at centre.old l) +ℤ at shift.now i)) }
 {
@@ -242,8 +244,10 @@ fn move_column<W: Whole, const N: usize>(
     requires sizes { (i : ℕ) → i < N → slice_index_or sizes.old i 0 ≤ range }
     requires left { (i : ℕ) → i < N → slice_index_or left.old i 0 ≤ 10 ^ 12 }
     ensures moved { cols.new ≡ slice_set cols.old t (moved_column N a.now cols.old t) }
-    ensures sizes { (i : ℕ) → i < N → pos (slice_index_or sizes.new i 0) ≡ pos (slice_index_or sizes.old i 0) +ℤ magnitude (rounded_product N a.now i cols.old t) }
-    ensures left { (i : ℕ) → i < N → pos (slice_index_or left.new i 0) ≡ pos (slice_index_or left.old i 0) +ℤ residue_of (product N a.now i cols.old t) }
+    ensures sizes { (i : ℕ) → i < N → pos (slice_index_or sizes.new i 0)
+        ≡ pos (slice_index_or sizes.old i 0) +ℤ magnitude (rounded_product N a.now i cols.old t) }
+    ensures left { (i : ℕ) → i < N → pos (slice_index_or left.new i 0)
+        ≡ pos (slice_index_or left.old i 0) +ℤ residue_of (product N a.now i cols.old t) }
 {
     let _ = cols.len();
     for i in 0..N {
@@ -273,7 +277,8 @@ fn slack_of(of_centre: &[i128], of_columns: &[u64; 8]) -> ArrayVec<i64, 8>
     requires states { length of_centre.now ≤ most_states }
     requires centre { (i : ℕ) → i < length of_centre.now → (pos 0 ≤ℤ at of_centre.now i) × (at of_centre.now i ≤ℤ pos (10 ^ 12)) }
     requires columns { (i : ℕ) → i < length of_centre.now → slice_index_or of_columns.now i 0 ≤ 10 ^ 12 }
-    ensures { result.items ≡ tabulate (length of_centre.now) (λ i. ceil_of (at of_centre.now i +ℤ pos (slice_index_or of_columns.now i 0))) }
+    ensures { result.items ≡ tabulate (length of_centre.now)
+        (λ i. ceil_of (at of_centre.now i +ℤ pos (slice_index_or of_columns.now i 0))) }
 {
     let mut slack = ArrayVec::new();
     for i in 0..of_centre.len() {
@@ -304,9 +309,11 @@ fn radii_after<const N: usize>(
     requires dists { w ≤ 8 }
     requires small { N ≤ most_states }
     requires states { length slack.now ≡ N }
-    requires within { (i : ℕ) → i < N → (pos (slice_index_or sizes.now i 0) +ℤ total w (λ t. magnitude (entry 8 e.now i t)) +ℤ at slack.now i) ≤ℤ pos range }
+    requires within { (i : ℕ) → i < N →
+        (pos (slice_index_or sizes.now i 0) +ℤ total w (λ t. magnitude (entry 8 e.now i t)) +ℤ at slack.now i) ≤ℤ pos range }
     requires low { (i : ℕ) → i < N → pos 0 ≤ℤ at slack.now i }
-    ensures { result.items ≡ tabulate N (λ i. pos (slice_index_or sizes.now i 0) +ℤ total w (λ t. magnitude (entry 8 e.now i t)) +ℤ at slack.now i) }
+    ensures { result.items ≡ tabulate N
+        (λ i. pos (slice_index_or sizes.now i 0) +ℤ total w (λ t. magnitude (entry 8 e.now i t)) +ℤ at slack.now i) }
 {
     let mut radii = ArrayVec::new();
     for i in 0..N {

@@ -8,7 +8,8 @@ use crate::zono::Zono;
 use fixed_mat::{Coef, Mat, times};
 
 impl<const N: usize> Zono<N> {
-    /// Whether the products of row `r` of `a` with each column, and their sums, fit 64 bits: the magnitudes of the row times the radii bound them.
+    /// Whether the products of row `r` of `a` with each column, and their sums, fit 64
+    /// bits: the magnitudes of the row times the radii bound them.
     pub(crate) fn has_narrow_row<const R: usize>(&self, a: &Mat<R, N, Coef>, r: usize) -> bool
         requires { r < R }
         ensures { IsTrue result → FitsRow narrow_limit N a.now r self.now.columns }

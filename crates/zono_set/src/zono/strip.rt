@@ -2,7 +2,8 @@
 
 ghost use Rattle.std.specs.Prelude.{◌≡◌, ◌+◌, ◌<◌, ◌≤◌, ◌^◌, length, pos, ◌≤ℤ◌, unsigned_abs};
 ghost use Rattle.set_rules.specs.Round.{rnd as rnd_of, residue as residue_of};
-ghost use Rattle.set_rules.specs.Strip.{raw_output, output_row, output_size, output_residue, strip_row as strip_row_of, out_interval as out_interval_of};
+ghost use Rattle.set_rules.specs.Strip.{raw_output, output_row, output_size, output_residue, strip_row as strip_row_of};
+ghost use Rattle.set_rules.specs.Strip.{out_interval as out_interval_of};
 ghost use Rattle.set_rules.specs.Zono.{range};
 ghost use Rattle.set_rules.specs.Limits.{raw_limit, row_limit, interval_limit, most_columns};
 ghost use Rattle.zono_set.specs.Holds.{StripHolds, HoldsReadings};
@@ -62,7 +63,8 @@ impl<const N: usize> Zono<N> {
         y - middle.nearest
     }
 
-    /// Puts the rounded products of the row with each column in the place of the coefficients that were in `a`, in 64 bits where they fit; gives the sum of what the rounding leaves.
+    /// Puts the rounded products of the row with each column in the place of the coefficients that were in
+    /// `a`, in 64 bits where they fit; gives the sum of what the rounding leaves.
     fn fill_coefficients(&self, c_row: &Mat<1, N, Coef>, a: &mut Coefs) -> u64
         requires spread { output_size N c_row.now self.now ≤ℤ pos 8_100_000_000_000_000_000_000 }
         ensures coefficients { a.new ≡ output_row N c_row.now self.now }

@@ -1,6 +1,7 @@
 //! A row used up: each state takes a multiple of it.
 
-ghost use Rattle.std.specs.Prelude.{◌≡◌, ℕ, ◌+◌, ◌*◌, ◌<◌, ◌≤◌, ◌^◌, ◌⊎◌, ◌&&◌, true, [], ◌∷◌, ◌++◌, length, replicate, take, ℤ, pos, ◌+ℤ◌, ◌*ℤ◌, ◌≤ℤ◌, int_le, unsigned_abs, slice_set, is_some, IfSome, OnSome};
+ghost use Rattle.std.specs.Prelude.{◌≡◌, ℕ, ◌+◌, ◌*◌, ◌<◌, ◌≤◌, ◌^◌, ◌⊎◌, ◌&&◌, true, [], ◌∷◌, ◌++◌, length, replicate, take, ℤ};
+ghost use Rattle.std.specs.Prelude.{pos, ◌+ℤ◌, ◌*ℤ◌, ◌≤ℤ◌, int_le, unsigned_abs, slice_set, is_some, IfSome, OnSome};
 ghost use Rattle.set_rules.specs.Sum.{magnitude};
 ghost use Rattle.set_rules.specs.Columns.{at, column_entry, row_magnitude, tabulate};
 ghost use Rattle.set_rules.specs.Round.{rnd as rnd_of};
@@ -28,7 +29,8 @@ pub enum Used {
 }
 
 impl<const N: usize> Zono<N> {
-    /// Takes `gain[i]` times the row `a * symbols = b` from each state `i`, where no state then reaches past `RANGE` and the sum of the radii grows no greater.
+    /// Takes `gain[i]` times the row `a * symbols = b` from each state `i`, where no state then
+    /// reaches past `RANGE` and the sum of the radii grows no greater.
     /// A coefficient past the last column belongs to a new symbol with a zero column.
     pub fn substitute(&mut self, a: &Coefs, b: i128, gain: &Mat<N, 1, Coef>) -> Used
         requires row { (length a.now ≡ length self.old.columns) ⊎ (length a.now ≡ length self.old.columns + 1) }

@@ -1,6 +1,7 @@
 //! A row that surely spreads a set, told before any share of it is rounded.
 
-ghost use Rattle.std.specs.Prelude.{IsTrue, ◌≡◌, ℕ, ◌+◌, ◌*◌, ◌<◌, ◌≤◌, ◌^◌, ◌⊎◌, length, ℤ, pos, ◌+ℤ◌, ◌-ℤ◌, ◌*ℤ◌, ◌≤ℤ◌, ◌<ℤ◌, unsigned_abs};
+ghost use Rattle.std.specs.Prelude.{IsTrue, ◌≡◌, ℕ, ◌+◌, ◌*◌, ◌<◌, ◌≤◌, ◌^◌, ◌⊎◌, length, ℤ, pos, ◌+ℤ◌, ◌-ℤ◌, ◌*ℤ◌, ◌≤ℤ◌, ◌<ℤ◌};
+ghost use Rattle.std.specs.Prelude.{unsigned_abs};
 ghost use Rattle.std.specs.List.{sum_by};
 ghost use Rattle.set_rules.specs.Sum.{total, magnitude};
 ghost use Rattle.set_rules.specs.Columns.{at, column_entry, row_magnitude};
@@ -13,8 +14,10 @@ use crate::zono::Zono;
 use fixed_mat::{Coef, Coefs, Cols, Mat};
 
 impl<const N: usize> Zono<N> {
-    /// Whether `gain[i]` times the row `a`, taken from each state `i`, surely makes the sum of the radii greater than `before`, which it is now.
-    /// What makes up for the rounding adds no less than the rounding takes away, so the unrounded shares decide. Those that do not fit 64 bits decide nothing.
+    /// Whether `gain[i]` times the row `a`, taken from each state `i`, surely makes the
+    /// sum of the radii greater than `before`, which it is now.
+    /// What makes up for the rounding adds no less than the rounding takes away, so the
+    /// unrounded shares decide. Those that do not fit 64 bits decide nothing.
     pub(crate) fn surely_spreads(&self, before: i128, a: &Coefs, gain: &Mat<N, 1, Coef>) -> bool
         requires row { (length a.now ≡ length self.now.columns) ⊎ (length a.now ≡ length self.now.columns + 1) }
         requires before { before ≡ spread N self.now }
@@ -34,7 +37,8 @@ impl<const N: usize> Zono<N> {
         sum > 1_000_000_000 * before
     }
 
-    /// Whether in each state the magnitudes of the entries and of the shares of the row, both unrounded, add up to a number that fits 64 bits.
+    /// Whether in each state the magnitudes of the entries and of the shares of the row,
+    /// both unrounded, add up to a number that fits 64 bits.
     fn has_narrow_shares(&self, a: &Coefs, gain: &Mat<N, 1, Coef>) -> bool
         ensures numbers { IsTrue result → sum_by unsigned_abs a.now ≤ narrow_limit }
         ensures sizes { IsTrue result → (i : ℕ) → i < N → raw_bound self.now.columns i (at gain.now i) a.now ≤ℤ pos narrow_limit }
@@ -84,7 +88,8 @@ fn widened_size(size: i64, gain: i64, of_symbol: i128) -> i128
     i128::from(size) + i128::from(gain.abs()) * of_symbol
 }
 
-/// The sum of the magnitudes in each state of the columns once the gains take their shares of the row, unrounded, in nano-units times nano-units.
+/// The sum of the magnitudes in each state of the columns once the gains take their
+/// shares of the row, unrounded, in nano-units times nano-units.
 fn unrounded_sizes<const N: usize>(cols: &Cols<N>, a: &Coefs, gain: &Mat<N, 1, Coef>) -> [i64; 8]
     requires len { length cols.now ≤ length a.now }
     requires numbers { sum_by unsigned_abs a.now ≤ narrow_limit }
@@ -110,7 +115,8 @@ fn add_column<const N: usize>(
     requires scaled { (k : ℕ) → k < N → unsigned_abs (pos 1_000_000_000 *ℤ at column.now k) ≤ narrow_limit }
     requires shares { (k : ℕ) → k < N → unsigned_abs (at gain.now k *ℤ number) ≤ narrow_limit }
     requires differences { (k : ℕ) → k < N → unsigned_abs (raw_rest (at column.now k) (at gain.now k) number) ≤ narrow_limit }
-    requires sums { (k : ℕ) → k < N → unsigned_abs (at sizes.old k +ℤ magnitude (raw_rest (at column.now k) (at gain.now k) number)) ≤ narrow_limit }
+    requires sums { (k : ℕ) → k < N →
+        unsigned_abs (at sizes.old k +ℤ magnitude (raw_rest (at column.now k) (at gain.now k) number)) ≤ narrow_limit }
     ensures { (k : ℕ) → k < N → at sizes.new k ≡ at sizes.old k +ℤ magnitude (raw_rest (at column.now k) (at gain.now k) number) }
 {
     for i in 0..column.len() {
