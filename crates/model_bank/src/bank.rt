@@ -92,28 +92,28 @@ impl Bank {
     }
 
     /// The same, with the record put in the place of an earlier one, so that none is made and moved for each sample.
-    pub fn step_into(&mut self, sample: &Sample, record: &mut SampleRec)
+    pub fn step_into(&mut self, sample: &Sample, earlier: &mut SampleRec)
         requires inputs { length sample.now.u.items ≡ self.old.inputs }
         requires outputs { length sample.now.y.items ≡ self.old.outputs }
         requires counted { self.old.count < 2 ^ 63 }
-        ensures record { RecordsSample (sample_of sample.now) self.old (sample_seen record.new) }
+        ensures record { RecordsSample (sample_of sample.now) self.old (sample_seen earlier.new) }
         ensures stands { StandsLonger (sample_of sample.now) self.old self.new }
         ensures inputs { self.new.inputs ≡ self.old.inputs }
         ensures outputs { self.new.outputs ≡ self.old.outputs }
         ensures count { self.new.count ≡ self.old.count + 1 }
-        ensures k { record.new.k ≡ self.old.count }
+        ensures k { earlier.new.k ≡ self.old.count }
     {
-        record.k = self.count;
+        earlier.k = self.count;
         take_all(
             &mut self.members,
             self.count == 0,
             &self.last,
             sample,
             &mut self.room,
-            &mut record.models,
+            &mut earlier.models,
         );
-        tell_possible(&self.members, &mut record.possible);
-        record.verdict = judge(&record.possible);
+        tell_possible(&self.members, &mut earlier.possible);
+        earlier.verdict = judge(&earlier.possible);
         self.count += 1;
         replace(&mut self.last, &sample.u);
     }

@@ -31,7 +31,7 @@ rows-preserved g c =
       outputs = search rules;
       taken = (
         c.rows.invariant.taken.0 ++ sample_of c.in-Some.sample ∷ [],
-        one-more c.rows.invariant.taken.1 c.next_row.new.stream.cutter (left_of c.next_row.new.stream) ((g.F.Shelf.state c.next_row.new.shelf).slot 1).rest (sample_of c.in-Some.sample) row c.step_into.new.self (sample_seen c.step_into.new.record) (g.O.Sink.state c.put_sample.new.out) c.step_into.ensures.stands c.step_into.ensures.record c.step_into.ensures.count c.in_ok-put_sample-in-Some.ensures.whole,
+        one-more c.rows.invariant.taken.1 c.next_row.new.stream.cutter (left_of c.next_row.new.stream) ((g.F.Shelf.state c.next_row.new.shelf).slot 1).rest (sample_of c.in-Some.sample) row c.step_into.new.self (sample_seen c.step_into.new.earlier) (g.O.Sink.state c.put_sample.new.out) c.step_into.ensures.stands c.step_into.ensures.record c.step_into.ensures.count c.in_ok-put_sample-in-Some.ensures.whole,
       );
       room = omega (arith, fewer);
       faults = omega (arith, c.in_ok-put_sample-in-Some.ensures.failed);
@@ -44,7 +44,7 @@ returns-in_err-put_sample-in-Some-clause-puts g c = λ ps stands.
     let p = err_from_is_err_and c.from_residual-in_err-put_sample-in-Some.result c.from_residual-in_err-put_sample-in-Some.ensures.1 in
     rw p.1
     (put-cut c.in_err-put_sample-in-Some.field-0.0 p.0 p.2 ((g.F.Shelf.state c.args.shelf.now).slot 1).rest (g.O.Sink.state c.args.out.now) (g.O.Sink.state c.put_sample.new.out) (λ r. rows_lines ps (rows_owed c.args.head.now c.args.stream.now.cutter (left_of c.args.stream.now ++ r)))
-    (front-more c.rows.invariant.taken.1 c.next_row.new.stream.cutter (left_of c.next_row.new.stream) ((g.F.Shelf.state c.next_row.new.shelf).slot 1).rest (sample_of c.in-Some.sample) row c.step_into.new.self (sample_seen c.step_into.new.record) (g.O.Sink.state c.put_sample.new.out) c.step_into.ensures.stands c.step_into.ensures.record ps stands c.in_err-put_sample-in-Some.ensures.front))
+    (front-more c.rows.invariant.taken.1 c.next_row.new.stream.cutter (left_of c.next_row.new.stream) ((g.F.Shelf.state c.next_row.new.shelf).slot 1).rest (sample_of c.in-Some.sample) row c.step_into.new.self (sample_seen c.step_into.new.earlier) (g.O.Sink.state c.put_sample.new.out) c.step_into.ensures.stands c.step_into.ensures.record ps stands c.in_err-put_sample-in-Some.ensures.front))
 
 pub returns-in-None-clause-says : goal.returns-in-None-clause-says
 returns-in-None-clause-says g c =

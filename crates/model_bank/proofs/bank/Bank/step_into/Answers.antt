@@ -28,9 +28,9 @@ returns-clause-record c = λ plants samples stands.
     let new = c.take_all.new.members in
     let kept = items-mapped after old.members c.deref_mut.result.now new (sym old.members.ok.0) c.deref_mut.ensures.value c.take_all.ensures.members in
     answer-is s b old.inputs old.outputs old.count old.members.items (with_items old.members new).items old.last.items
-    (map model_seen c.take_all.new.models.items) c.tell_possible.new.possible.items c.deref-2.result.now c.judge-record.result
+    (map model_seen c.take_all.new.models.items) c.tell_possible.new.possible.items c.deref-2.result.now c.judge-earlier.result
     c.self.view_is kept (c.take_all.ensures.answers ∙ ap (answers_of (eqb old.count 0) old.last.items s 0) c.deref_mut.ensures.value)
-    (c.tell_possible.ensures ∙ ap (map (λ m. m.live)) c.deref.ensures.value) c.deref-2.ensures.0 c.judge-record.ensures
+    (c.tell_possible.ensures ∙ ap (map (λ m. m.live)) c.deref.ensures.value) c.deref-2.ensures.0 c.judge-earlier.ensures
     ∙ bank-answers plants samples s b stands
 
 pub returns-clause-stands : goal.returns-clause-stands
