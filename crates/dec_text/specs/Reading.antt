@@ -164,4 +164,4 @@ lost_digits whole fraction lost behind = drop (length whole - lost) whole ++ dro
 abbrev pub rounded_tenths : Bool → ℕ → Bool → Result Reading DecFault
 rounded_tenths negative tenths is_fine =
     in_range (signed negative ((tenths + (if negative && not is_fine then 4 else 5)) / 10))
-        (if is_fine || not ((tenths % 10) == 0) then 1 else 0)
+    (if is_fine || not ((tenths % 10) == 0) then 1 else 0)

@@ -36,10 +36,20 @@ impl Model for Bank {
     ghost Value = { TheBank };
 
     ghost view = { λ b. record {
-        inputs = b.inputs; outputs = b.outputs; members = b.members.items; count = b.count; last_inputs = b.last.items } };
+      inputs = b.inputs;
+      outputs = b.outputs;
+      members = b.members.items;
+      count = b.count;
+      last_inputs = b.last.items;
+    } };
 
     ghost invariant = { λ b. IsBank (record {
-        inputs = b.inputs; outputs = b.outputs; members = b.members.items; count = b.count; last_inputs = b.last.items }) };
+      inputs = b.inputs;
+      outputs = b.outputs;
+      members = b.members.items;
+      count = b.count;
+      last_inputs = b.last.items;
+    }) };
 }
 
 impl Bank {

@@ -48,4 +48,4 @@ is_live o p samples (suc k) = is_live o p samples k && is_none (certificate_at o
 abbrev pub Judges : Plant → Sample → Estimate → Estimate → Option Certificate → Type 0
 Judges p s e e' cert = (samples : List Sample) → StandsReady p samples e
     → (cert ≡ certificate_at zonotope_observer p (samples ++ s ∷ []) (length samples))
-      × (cert ≡ None → StandsCorrected p (samples ++ s ∷ []) e')
+    × (cert ≡ None → StandsCorrected p (samples ++ s ∷ []) e')

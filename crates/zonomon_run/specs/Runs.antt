@@ -88,13 +88,13 @@ IsHelpStatus n = (n ≡ 0) ⊎ ((n ≡ 5) ⊎ (n ≡ 6))
 abbrev pub ModelRefused : List ℕ → Outside → Outside → Type 0
 ModelRefused model before after =
     (fault : ModelFault) × OnFile before.shelf model (λ m. model_refusal m ≡ Some fault)
-        × Tells (model_refusal_text fault) before.err after.err
+    × Tells (model_refusal_text fault) before.err after.err
 
 -- the telemetry is refused with a fault, and that was told
 abbrev pub TelemetryRefused : (model telemetry : List ℕ) → Outside → Outside → Type 0
 TelemetryRefused model telemetry before after =
     (fault : TelemFault) × OnFiles before.shelf model telemetry (λ f. telemetry_refusal f ≡ Some fault)
-        × Tells (telemetry_refusal_text fault) before.err after.err
+    × Tells (telemetry_refusal_text fault) before.err after.err
 
 -- what the words `run MODEL TELEMETRY` do. Status 6 is want of memory
 pub record Monitors (model telemetry : List ℕ) (before : Outside) (result : ℕ) (after : Outside) : Type 0 where
