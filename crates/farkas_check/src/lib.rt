@@ -4,6 +4,3 @@
 mod certificate;
 
 pub use certificate::{Cert, Multipliers};
-
-#[cfg(test)]
-mod tests;

@@ -44,6 +44,3 @@ pub fn limits()
     ensures products { RAW ≡ raw_limit }
     ensures units { S ≡ pos unit }
 {}
-
-#[cfg(test)]
-mod tests;

@@ -8,6 +8,3 @@ mod reduction;
 
 pub use ranks::{Marks, kept, rank};
 pub use reduction::{reduce, reduce_in_place};
-
-#[cfg(test)]
-mod tests;

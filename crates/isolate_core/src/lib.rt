@@ -4,6 +4,3 @@
 mod verdict;
 
 pub use verdict::{Verdict, judge};
-
-#[cfg(test)]
-mod tests;

@@ -8,6 +8,3 @@ mod record;
 
 pub use bank::Bank;
 pub use record::{ModelRec, SampleRec};
-
-#[cfg(test)]
-mod tests;

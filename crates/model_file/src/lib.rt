@@ -15,6 +15,3 @@ pub use bank::{Bank0, NamedPlant};
 pub use fault::ModelFault;
 pub use place::{Count, Field, Path};
 pub use reader::{MOST_BYTES, read_models};
-
-#[cfg(test)]
-mod tests;

@@ -11,6 +11,3 @@ mod whole;
 
 pub use done::{Done, RunFault};
 pub use reporting::{MOST_TELEMETRY, monitor};
-
-#[cfg(test)]
-mod tests;

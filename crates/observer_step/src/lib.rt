@@ -39,6 +39,3 @@ pub fn laws()
     ensures stays { ExcludedStays }
     ensures later { LaterChangesNothing }
 {}
-
-#[cfg(test)]
-mod tests;

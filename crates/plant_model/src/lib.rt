@@ -12,6 +12,3 @@ pub use names::Names;
 pub use parts::{PlantFault, PlantParts};
 pub use plant::Plant;
 pub use sample::Sample;
-
-#[cfg(test)]
-mod tests;

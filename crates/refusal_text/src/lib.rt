@@ -7,6 +7,3 @@ mod telemetry;
 
 pub use model::model_refusal;
 pub use telemetry::telemetry_refusal;
-
-#[cfg(test)]
-mod tests;

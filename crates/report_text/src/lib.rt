@@ -7,6 +7,3 @@ mod write;
 
 pub use line::RepLine;
 pub use write::{push_line, write_line};
-
-#[cfg(test)]
-mod tests;

@@ -6,6 +6,3 @@ mod products;
 mod shrink;
 
 pub use gains::{gain, gain_within};
-
-#[cfg(test)]
-mod tests;

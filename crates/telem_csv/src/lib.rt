@@ -14,6 +14,3 @@ pub use fault::{Col, TelemFault, TelemWhy};
 pub use fed::Fed;
 pub use header::Header;
 pub use row::read_row;
-
-#[cfg(test)]
-mod tests;

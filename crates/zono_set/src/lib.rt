@@ -10,6 +10,3 @@ mod zono;
 
 pub use room::{Refusals, Rest};
 pub use zono::{PastRange, StripRow, Used, Zono};
-
-#[cfg(test)]
-mod tests;

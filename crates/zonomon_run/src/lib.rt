@@ -8,6 +8,3 @@ mod running;
 mod words;
 
 pub use running::run;
-
-#[cfg(test)]
-mod tests;

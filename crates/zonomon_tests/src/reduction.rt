@@ -1,4 +1,4 @@
-use crate::{kept, rank, reduce, reduce_in_place};
+use girard_reduce::{kept, rank, reduce, reduce_in_place};
 use fixed_mat::{Cols, Mat, Range};
 use std::test::Fail;
 

@@ -2,7 +2,7 @@ ghost use Rattle.std.specs.Prelude.{◌≡◌, ◌≤◌, IfSome, unsigned_abs};
 ghost use Rattle.set_rules.specs.Limits.{input_limit};
 ghost use Rattle.plant_model.specs.Plant.{IsReading};
 
-use crate::{Est, Kept, Outcome};
+use observer_step::{Est, Kept, Outcome};
 use arrayvec::ArrayVec;
 use farkas_check::Cert;
 use fixed_mat::{Mat, Reading};

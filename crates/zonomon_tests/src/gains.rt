@@ -1,4 +1,4 @@
-use crate::{gain, gain_within};
+use row_drop::{gain, gain_within};
 use fixed_mat::{Coefs, Cols};
 use std::test::Fail;
 

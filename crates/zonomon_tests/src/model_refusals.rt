@@ -1,4 +1,4 @@
-use crate::model_refusal;
+use refusal_text::model_refusal;
 use model_file::{MOST_BYTES, read_models};
 use std::alloc::Global;
 use std::process::Abort;

@@ -1,4 +1,4 @@
-use crate::{Verdict, judge};
+use isolate_core::{Verdict, judge};
 
 #[test]
 fn judges_by_the_models_that_are_left(rt: HostRuntime) {

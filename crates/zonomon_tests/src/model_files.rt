@@ -1,4 +1,4 @@
-use crate::{Bank0, read_models};
+use model_file::{Bank0, read_models};
 use plant_model::AnyPlant;
 use std::alloc::Global;
 use std::test::Fail;

@@ -2,7 +2,7 @@ ghost use Rattle.std.specs.Prelude.{◌≡◌, ◌≤◌, [], length, unsigned_a
 ghost use Rattle.set_rules.specs.Limits.{input_limit};
 ghost use Rattle.set_rules.specs.Zono.{range};
 
-use crate::{Bank, ModelRec, SampleRec};
+use model_bank::{Bank, ModelRec, SampleRec};
 use arrayvec::ArrayVec;
 use farkas_check::Cert;
 use fixed_mat::Reading;

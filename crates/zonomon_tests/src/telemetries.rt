@@ -1,6 +1,6 @@
 ghost use Rattle.std.specs.Prelude.{◌≡◌, ◌≤◌, ◌^◌, length};
 
-use crate::{Col, Fed, Header, LineCutter, TelemFault, TelemWhy, read_row};
+use telem_csv::{Col, Fed, Header, LineCutter, TelemFault, TelemWhy, read_row};
 use dec_text::DecFault;
 use fixed_mat::Reading;
 use plant_model::Names;

@@ -1,4 +1,4 @@
-use crate::{RepLine, write_line};
+use report_text::{RepLine, write_line};
 use arrayvec::{ArrayString, ArrayVec};
 use farkas_check::{Cert, Multipliers};
 use isolate_core::Verdict;

@@ -1,4 +1,4 @@
-use crate::{
+use fixed_mat::{
     COEF, Coef, Coefs, Cols, Mat, OverLimit, Range, ceil_s, dot, residue, rnd, rounded,
     row_times_vector,
 };

@@ -1,4 +1,4 @@
-use crate::{Names, Plant, PlantFault, PlantParts};
+use plant_model::{Names, Plant, PlantFault, PlantParts};
 use fixed_mat::Mat;
 use std::test::Fail;
 

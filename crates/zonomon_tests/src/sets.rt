@@ -1,4 +1,4 @@
-use crate::{PastRange, Used, Zono};
+use zono_set::{PastRange, Used, Zono};
 use fixed_mat::{Coef, Coefs, Cols, Mat, Range, Raws};
 use std::test::Fail;
 

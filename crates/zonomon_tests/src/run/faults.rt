@@ -2,7 +2,7 @@
 use super::inputs::PAIR;
 use super::several_models::TOLD_APART;
 use super::{Ran, words_of};
-use crate::run;
+use zonomon_run::run;
 use outside_io::{MemShelf, MemSink, SureSink};
 use std::alloc::Global;
 use std::test::Fail;

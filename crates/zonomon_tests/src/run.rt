@@ -5,7 +5,7 @@ mod refusals;
 mod several_models;
 mod words;
 
-use crate::run;
+use zonomon_run::run;
 use outside_io::{SureShelf, SureSink};
 use std::alloc::Global;
 use std::test::Fail;

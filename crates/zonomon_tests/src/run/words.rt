@@ -1,6 +1,6 @@
 //! The words of a call.
 use super::{Ran, words_of};
-use crate::run;
+use zonomon_run::run;
 use outside_io::{MemSink, SureShelf, SureSink};
 use std::alloc::Global;
 use std::test::Fail;

@@ -1,4 +1,4 @@
-use crate::Multipliers;
+use farkas_check::Multipliers;
 use std::test::Fail;
 
 #[test]
