@@ -5,7 +5,6 @@ use Rattle.set_rules.specs.Limits.{input_limit}
 use Rattle.plant_model.specs.Plant.{Plant, Sample, sample_at, AllWithinLimit}
 use Rattle.observer_step.specs.Predicted.{first_set}
 use Rattle.observer_step.specs.Estimate.{Estimate, corrected_set}
-use Rattle.observer_step.specs.Answers.{zonotope_observer, is_live}
 use Rattle.model_file.specs.Bank.{Models}
 
 -- one model of a bank
@@ -47,14 +46,14 @@ abbrev pub set_after : Plant → List Sample → ℕ → Zono
 set_after p samples zero = first_set p
 set_after p samples (suc k) = corrected_set p samples k
 
--- a member stands for these samples: it is live where no certificate was due, and then its estimate is that of the samples
-pub record MemberStands (samples : List Sample) (m : Member) : Type 0 where
-  pub live : m.live ≡ is_live zonotope_observer m.plant samples (length samples)
-  pub set : m.live ≡ true → m.estimate.plain ≡ set_after m.plant samples (length samples)
+-- a member stands for these samples: where it is live, its estimate is that of the samples
+abbrev pub MemberStands : List Sample → Member → Type 0
+MemberStands samples m = m.live ≡ true → m.estimate.plain ≡ set_after m.plant samples (length samples)
 
--- a bank of these plants stands for these samples
-pub record BankStands (plants : List Plant) (samples : List Sample) (bank : Bank) : Type 0 where
+-- a bank of these plants, of which these are live, stands for these samples
+pub record BankStands (plants : List Plant) (samples : List Sample) (lives : List Bool) (bank : Bank) : Type 0 where
   pub plants_are : map (λ (m : Member). m.plant) bank.members ≡ plants
+  pub lives_are : map (λ (m : Member). m.live) bank.members ≡ lives
   pub count_is : bank.count ≡ length samples
   pub inputs_are : bank.last_inputs ≡ (sample_at samples (length samples - 1)).inputs
   pub members_stand : All (MemberStands samples) bank.members

@@ -22,36 +22,49 @@ widens is_first u p z = if is_first then false else leaves_range p u z
 abbrev pub certificate_on : Plant → Sample → Zono → Option Certificate
 certificate_on p s z = option_map by_out (due p s z)
 
--- the answer where z is the predicted set
-unfoldable pub answer_on : Plant → Sample → Zono → Bool → Answer
-answer_on p s z is_widened = record {
+-- the answer where z is the predicted set, with this certificate or with none
+unfoldable pub answer_on : Plant → Sample → Zono → Bool → Option Certificate → Answer
+answer_on p s z is_widened c = record {
   predicted = predicted_outs p s.inputs z;
   is_widened = is_widened;
-  certificate = certificate_on p s z;
-  hulls = if is_none (certificate_on p s z) then hulls p (correct p s z) else [];
+  certificate = c;
+  hulls = if is_none c then hulls p (correct p s z) else [];
 }
 
+-- the set after the sample where z is the predicted set: it takes the readings where there is no certificate
+unfoldable pub set_on : Plant → Sample → Zono → Option Certificate → Zono
+set_on p s z c = if is_none c then correct p s z else z
+
+-- the predicted set of a member
+abbrev pub ahead_of : Bool → List ℤ → Member → Zono
+ahead_of is_first u m = set_ahead is_first u m.plant m.estimate.plain
+
+-- the certificate that is due for a member
+abbrev pub due_of : Bool → List ℤ → Sample → Member → Option Certificate
+due_of is_first u s m = certificate_on m.plant s (ahead_of is_first u m)
+
 -- the answer on a live member
-abbrev pub answer_of : Bool → List ℤ → Sample → Member → Answer
-answer_of is_first u s m = answer_on m.plant s (set_ahead is_first u m.plant m.estimate.plain) (widens is_first u m.plant m.estimate.plain)
+abbrev pub answer_of : Bool → List ℤ → Sample → Member → Option Certificate → Answer
+answer_of is_first u s m c = answer_on m.plant s (ahead_of is_first u m) (widens is_first u m.plant m.estimate.plain) c
 
 -- what is told of model i where it is live
-abbrev pub told_of : Bool → List ℤ → Sample → ℕ → Member → Option ModelAnswer
-told_of is_first u s i m = if m.live then Some (record { index = i; answer = answer_of is_first u s m }) else None
+abbrev pub told_of : Bool → List ℤ → Sample → ℕ → Member → Option Certificate → Option ModelAnswer
+told_of is_first u s i m c = if m.live then Some (record { index = i; answer = answer_of is_first u s m c }) else None
 
--- the set after the sample where z is the predicted set: it takes the readings where no certificate is due
-unfoldable pub set_on : Plant → Sample → Zono → Zono
-set_on p s z = if is_none (certificate_on p s z) then correct p s z else z
-
--- a member that was live before the sample, where z is the predicted set: it stays live where no certificate is due
-abbrev pub judged_on : Plant → Sample → Zono → Member
-judged_on p s z = record { plant = p; estimate = record { plain = set_on p s z }; live = is_none (certificate_on p s z) }
+-- a member that was live before the sample, where z is the predicted set: it stays live where there is no certificate
+abbrev pub judged_on : Plant → Sample → Zono → Option Certificate → Member
+judged_on p s z c = record { plant = p; estimate = record { plain = set_on p s z c }; live = is_none c }
 
 -- the member after the sample: one that is not live stays as it is
-abbrev pub member_after : Bool → List ℤ → Sample → Member → Member
-member_after is_first u s m = if m.live then judged_on m.plant s (set_ahead is_first u m.plant m.estimate.plain) else m
+abbrev pub member_after : Bool → List ℤ → Sample → Member → Option Certificate → Member
+member_after is_first u s m c = if m.live then judged_on m.plant s (ahead_of is_first u m) c else m
+
+-- the members after the sample
+abbrev pub members_after : Bool → List ℤ → Sample → List Member → List (Option Certificate) → List Member
+members_after is_first u s (m ∷ ms) (c ∷ cs) = member_after is_first u s m c ∷ members_after is_first u s ms cs
+members_after is_first u s _ _ = []
 
 -- the answers on the members that are live, where the first is model i
-abbrev pub answers_of : Bool → List ℤ → Sample → ℕ → List Member → List ModelAnswer
-answers_of is_first u s i [] = []
-answers_of is_first u s i (m ∷ ms) = answer_if m.live i (answer_of is_first u s m) (answers_of is_first u s (i + 1) ms)
+abbrev pub answers_of : Bool → List ℤ → Sample → ℕ → List Member → List (Option Certificate) → List ModelAnswer
+answers_of is_first u s i (m ∷ ms) (c ∷ cs) = answer_if m.live i (answer_of is_first u s m c) (answers_of is_first u s (i + 1) ms cs)
+answers_of is_first u s i _ _ = []

@@ -1,7 +1,9 @@
 -- What the definitions say of one model at a sample.
-use Rattle.std.specs.Prelude.{◌≡◌, ℕ, zero, suc, ℤ, Bool, true, ◌&&◌, is_none, List, [], ◌∷◌, ◌++◌, length, Option, None}
+use Rattle.std.specs.Prelude.{◌≡◌, ℕ, ◌==◌, ℤ, Bool, true, false, is_none, List, [], ◌∷◌, ◌++◌, length, Option, None, Some}
 use Rattle.std.specs.Prelude.{option_map, if◌then◌else◌}
-use Rattle.farkas_check.specs.Certificate.{Certificate, by_out}
+use Rattle.std.specs.Ordering.{int_eq}
+use lib.Pointwise.{pointwise}
+use Rattle.farkas_check.specs.Certificate.{Certificate, by_out, by_rows}
 use Rattle.set_rules.specs.Zono.{Zono}
 use Rattle.plant_model.specs.Plant.{Plant, Sample, sample_at}
 use Rattle.observer_step.specs.Predicted.{predicted_outs, hulls, due}
@@ -14,38 +16,85 @@ pub record Answer : Type 0 where
   pub certificate : Option Certificate
   pub hulls : List (ℤ × ℤ)
 
--- the rules by which a set follows a plant through its telemetry: the predicted and the
--- corrected set at a sample, and whether the plant was widened there
+-- the rules by which a set follows a plant through its telemetry: the predicted and the corrected set at a sample, whether
+-- the plant was widened there, which multipliers refute the rows that are kept then, and the first candidate that does
 pub record Observer : Type 0 where
   pub predicted : Plant → List Sample → ℕ → Zono
   pub corrected : Plant → List Sample → ℕ → Zono
   pub widened : Plant → List Sample → ℕ → Bool
+  pub refutes : Plant → List Sample → ℕ → List ℤ → Bool
+  pub candidate : Plant → List Sample → ℕ → Option (List ℤ)
 
--- the zonotope that is predicted and corrected
+-- no rows are kept, so nothing refutes them
+abbrev pub refutes_none : List ℤ → Bool
+refutes_none multipliers = false
+
+-- the zonotope that is predicted and corrected; it keeps no rows
 abbrev pub zonotope_observer : Observer
-zonotope_observer = record { predicted = predicted_set; corrected = corrected_set; widened = is_widened }
-
--- the certificate that is due at sample k
-abbrev pub certificate_at : Observer → Plant → List Sample → ℕ → Option Certificate
-certificate_at o p samples k = option_map by_out (due p (sample_at samples k) (o.predicted p samples k))
-
--- the answer on a model that is live before sample k
-abbrev pub answer_at : Observer → Plant → List Sample → ℕ → Answer
-answer_at o p samples k = record {
-  predicted = predicted_outs p (sample_at samples k).inputs (o.predicted p samples k);
-  is_widened = o.widened p samples k;
-  certificate = certificate_at o p samples k;
-  hulls = if is_none (certificate_at o p samples k) then hulls p (o.corrected p samples k) else [];
+zonotope_observer = record {
+  predicted = predicted_set;
+  corrected = corrected_set;
+  widened = is_widened;
+  refutes = λ p samples k. refutes_none;
+  candidate = λ p samples k. None;
 }
 
--- no certificate was due before sample k
-unfoldable pub is_live : Observer → Plant → List Sample → ℕ → Bool
-is_live o p samples zero = true
-is_live o p samples (suc k) = is_live o p samples k && is_none (certificate_at o p samples k)
+-- the output that is due at sample k
+abbrev pub due_at : Observer → Plant → List Sample → ℕ → Option ℕ
+due_at o p samples k = due p (sample_at samples k) (o.predicted p samples k)
+
+-- the certificate that is due
+abbrev pub certificate_at : Observer → Plant → List Sample → ℕ → Option Certificate
+certificate_at o p samples k = option_map by_out (due_at o p samples k)
+
+-- a certificate, or none, is justified: where an output is due, its certificate alone; and else none, or multipliers that refute the kept rows
+abbrev pub is_justified : Option ℕ → (List ℤ → Bool) → Option Certificate → Bool
+is_justified (Some o) refutes (Some (by_out p)) = p == o
+is_justified (Some o) refutes (Some (by_rows ls)) = false
+is_justified (Some o) refutes None = false
+is_justified None refutes (Some (by_out p)) = false
+is_justified None refutes (Some (by_rows ls)) = refutes ls
+is_justified None refutes None = true
+
+-- the choice of `run`: where no output is due and a candidate refutes, the first that does
+abbrev pub is_chosen : Option ℕ → (List ℤ → Bool) → Option (List ℤ) → Option Certificate → Bool
+is_chosen (Some o) refutes first c = is_justified (Some o) refutes c
+is_chosen None refutes None c = is_justified None refutes c
+is_chosen None refutes (Some l) (Some (by_rows ls)) = pointwise int_eq ls l
+is_chosen None refutes (Some l) (Some (by_out p)) = false
+is_chosen None refutes (Some l) None = false
+
+-- which certificates may stand in a report: any that is justified, or the choice of `run`
+pub data Rule : Type 0 where
+  any_justified : Rule
+  as_run_chooses : Rule
+
+abbrev pub is_allowed : Rule → Option ℕ → (List ℤ → Bool) → Option (List ℤ) → Option Certificate → Bool
+is_allowed any_justified due refutes first c = is_justified due refutes c
+is_allowed as_run_chooses due refutes first c = is_chosen due refutes first c
+
+-- at sample k the rule allows this certificate, or none
+abbrev pub allows_at : Rule → Observer → Plant → List Sample → ℕ → Option Certificate → Bool
+allows_at rule o p samples k c = is_allowed rule (due_at o p samples k) (o.refutes p samples k) (o.candidate p samples k) c
+
+-- the answer on a model at sample k where it is excluded by this certificate, or stays
+abbrev pub answer_with : Observer → Plant → List Sample → ℕ → Option Certificate → Answer
+answer_with o p samples k c = record {
+  predicted = predicted_outs p (sample_at samples k).inputs (o.predicted p samples k);
+  is_widened = o.widened p samples k;
+  certificate = c;
+  hulls = if is_none c then hulls p (o.corrected p samples k) else [];
+}
 
 -- where e is ready for the sample s after some samples, the certificate is the one that
 -- is due there; and if there is none, e' is corrected by s
 abbrev pub Judges : Plant → Sample → Estimate → Estimate → Option Certificate → Type 0
 Judges p s e e' cert = (samples : List Sample) → StandsReady p samples e
     → (cert ≡ certificate_at zonotope_observer p (samples ++ s ∷ []) (length samples))
+    × (cert ≡ None → StandsCorrected p (samples ++ s ∷ []) e')
+
+-- where e is ready for the sample s after some samples, the certificate, or none, is justified there; and if there is none, e' is corrected by s
+abbrev pub Justifies : Plant → Sample → Estimate → Estimate → Option Certificate → Type 0
+Justifies p s e e' cert = (samples : List Sample) → StandsReady p samples e
+    → (is_justified (due_at zonotope_observer p (samples ++ s ∷ []) (length samples)) refutes_none cert ≡ true)
     × (cert ≡ None → StandsCorrected p (samples ++ s ∷ []) e')
