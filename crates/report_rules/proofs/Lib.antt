@@ -1,2 +1,3 @@
 pub mod Hulls
 pub mod Misses
+pub mod Chosen

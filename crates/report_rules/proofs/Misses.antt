@@ -1,18 +1,23 @@
 -- After the intervals of a model of which a reading misses one, the line that excludes it by the least such output.
-use Rattle.std.proofs.Common.{◌≡◌, ℕ, zero, suc, ◌+◌, ◌<◌, ℤ, List, [], ◌∷◌, ◌++◌, length, map, flat_map, get_or, Option, Some, None, option_map, is_none, if◌then◌else◌, Bool, true, false, not, refl, sym, ap, ◌∙◌, arith, subst, append_assoc}
+use Rattle.std.proofs.Common.{◌≡◌, ℕ, zero, suc, ◌+◌, ◌<◌, ◌==◌, ℤ, List, [], ◌∷◌, ◌++◌, length, map, flat_map, get_or, Option, Some, None, option_map, is_none, if◌then◌else◌, Bool, true, false, not, ◌||◌, ◌&&◌, refl, sym, ap, ◌∙◌, arith, subst, append_assoc}
 use Rattle.std.specs.List.{enumerate_from}
+use Rattle.std.proofs.lemmas.Bool.Decides.{nat_tests}
 use Rattle.set_rules.specs.Tests.{first_below, last_passing, or_else}
 use Rattle.set_rules.proofs.ImageSets.{length-tabulate, get_or-tabulate}
-use Rattle.farkas_check.specs.Certificate.{by_out}
+use Rattle.farkas_check.specs.Certificate.{Certificate, by_out, by_rows}
 use Rattle.isolate_core.specs.Verdict.{possible_models}
 use Rattle.plant_model.specs.Plant.{Plant, Sample, sample_at, reading_at}
 use Rattle.observer_step.specs.Predicted.{hulls, due, out_of, reading_misses}
-use Rattle.observer_step.specs.Answers.{Answer, Observer, answer_at, certificate_at, is_live}
-use Rattle.model_bank.specs.Answers.{answer_if, answers_from, sample_answer}
-use Rattle.report_text.specs.Line.{Line, model, pred, hull, status, possible, verdict}
-use Rattle.report_rules.specs.Lines.{head_lines, pred_lines, hull_lines, outcome_lines, model_lines, sample_lines, samples_lines, last_lines}
+use Rattle.observer_step.specs.Answers.{Answer, Observer, answer_with, is_justified, any_justified, allows_at}
+use Rattle.model_bank.specs.Answers.{answer_if, answers_from, sample_answer, all_allowed}
+use Rattle.report_text.specs.Line.{Line, model, pred, exclude, hull, status, possible, verdict}
+use Rattle.report_rules.specs.Lines.{head_lines, pred_lines, hull_lines, outcome_lines, model_lines, sample_lines, last_lines}
 use Rattle.report_rules.specs.Claims.{MissesTold, first_missed}
+use Rattle.report_rules.specs.Report.{Choice, lives_before, samples_lines, report, IsReport}
 use Rattle.report_rules.specs.Laws.{MissesAreTold}
+
+same-output : (q o : ℕ) → (q == o) ≡ true → q ≡ o
+same-output q o h = grind (arith, nat_tests)
 
 module _ (obs : Observer) (samples : List Sample) where
   -- nothing is left to be told
@@ -61,55 +66,74 @@ module _ (obs : Observer) (samples : List Sample) where
         subst (λ o. MissesTold samples k o (map (λ p. pred i p.0 p.1.0 p.1.1) (enumerate_from (m + 1) ps) ++ ys))
         (ap (λ n. of_model (first_below n test)) next ∙ sym (next-missed m e (is 0 e (omega arith) ∙ ap ends first))) more
 
-    abbrev answer : Answer
-    answer = answer_at obs p samples k
+    abbrev answer : Option Certificate → Answer
+    answer c = answer_with obs p samples k c
 
-    past-outcome : (ys : List Line) → Told k ys → MissesTold samples k (of_model (due p s (obs.predicted p samples k))) (outcome_lines i (certificate_at obs p samples k) answer.hulls answer.is_widened ++ ys)
-    past-outcome ys h = by (due p s (obs.predicted p samples k))
+    -- where an output is due, only its certificate is allowed; where none is, nothing is left to be told
+    past-outcome : (c : Option Certificate) (ys : List Line) → allows_at any_justified obs p samples k c ≡ true → Told k ys
+        → MissesTold samples k (of_model (due p s (obs.predicted p samples k))) (outcome_lines i c (answer c).hulls (answer c).is_widened ++ ys)
+    past-outcome c ys allowed h = by (due p s (obs.predicted p samples k)) c allowed
       where
-        by : (o : Option ℕ) → MissesTold samples k (of_model o) (outcome_lines i (option_map by_out o) (if is_none (option_map by_out o) then hulls p (obs.corrected p samples k) else []) answer.is_widened ++ ys)
-        by (Some o) = (refl, h)
-        by None =
-            subst (λ t. Told k t) (sym (append_assoc (hull_lines i (hulls p (obs.corrected p samples k))) (status i (not answer.is_widened) ∷ []) ys))
-            (past-hulls k i 0 (hulls p (obs.corrected p samples k)) (status i (not answer.is_widened) ∷ ys) h)
+        staying : MissesTold samples k None ((hull_lines i (hulls p (obs.corrected p samples k)) ++ status i (not (answer None).is_widened) ∷ []) ++ ys)
+        staying = subst (λ t. Told k t) (sym (append_assoc (hull_lines i (hulls p (obs.corrected p samples k))) (status i (not (answer None).is_widened) ∷ []) ys))
+            (past-hulls k i 0 (hulls p (obs.corrected p samples k)) (status i (not (answer None).is_widened) ∷ ys) h)
 
-    past-model : (ys : List Line) → Told k ys → Told k (model_lines (record { index = i; answer = answer }) ++ ys)
+        by : (o : Option ℕ) (c : Option Certificate) → is_justified o (obs.refutes p samples k) c ≡ true → MissesTold samples k (of_model o) (outcome_lines i c (answer c).hulls (answer c).is_widened ++ ys)
+        by (Some o) (Some (by_out q)) allowed = (ap (λ x. exclude i (by_out x)) (same-output q o allowed), h)
+        by (Some o) (Some (by_rows ls)) allowed = absurd cc
+        by (Some o) None allowed = absurd cc
+        by None (Some cert) allowed = h
+        by None None allowed = staying
+
+    past-model : (c : Option Certificate) (ys : List Line) → allows_at any_justified obs p samples k c ≡ true → Told k ys → Told k (model_lines (record { index = i; answer = answer c }) ++ ys)
     unfolding due first_below
-    past-model ys h =
-        let outcome = outcome_lines i (certificate_at obs p samples k) answer.hulls answer.is_widened in
-        let many : length answer.predicted ≡ p.outputs = length-tabulate p.outputs ends in
-        let whole : p.outputs ≡ 0 + length answer.predicted = omega arith in
-        let told = subst (λ n. MissesTold samples k (of_model (first_below n test)) (outcome ++ ys)) whole (past-outcome ys h) in
-        subst (λ t. Told k t) (sym (append_assoc (pred_lines i answer.predicted) outcome ys))
-        (past-preds 0 answer.predicted (outcome ++ ys)
+    past-model c ys allowed h =
+        let outcome = outcome_lines i c (answer c).hulls (answer c).is_widened in
+        let outs = (answer c).predicted in
+        let many : length outs ≡ p.outputs = length-tabulate p.outputs ends in
+        let whole : p.outputs ≡ 0 + length outs = omega arith in
+        let told = subst (λ n. MissesTold samples k (of_model (first_below n test)) (outcome ++ ys)) whole (past-outcome c ys allowed h) in
+        subst (λ t. Told k t) (sym (append_assoc (pred_lines i outs) outcome ys))
+        (past-preds 0 outs (outcome ++ ys)
         (λ x d l. get_or-tabulate p.outputs ends x d (subst (λ m. x < m) many l) ∙ ap ends (omega arith)) told)
 
-  past-models : (k i : ℕ) (ps : List Plant) (ys : List Line) → Told k ys → Told k (flat_map model_lines (answers_from obs i ps samples k) ++ ys)
-  past-models k i [] ys h = h
-  past-models k i (p ∷ ps) ys h = by (past-models k (i + 1) ps ys h) (is_live obs p samples k)
+  past-models : (k i : ℕ) (ps : List Plant) (lives : List Bool) (cs : List (Option Certificate)) (ys : List Line) → all_allowed any_justified obs ps lives cs samples k ≡ true
+      → Told k ys → Told k (flat_map model_lines (answers_from obs i ps lives cs samples k) ++ ys)
+  past-models k i [] lives cs ys allowed h = h
+  past-models k i (p ∷ ps) [] cs ys allowed h = h
+  past-models k i (p ∷ ps) (live ∷ lives) [] ys allowed h = h
+  past-models k i (p ∷ ps) (live ∷ lives) (c ∷ cs) ys allowed h =
+      by (λ rest. past-models k (i + 1) ps lives cs ys rest h) live (allows_at any_justified obs p samples k c) refl allowed
     where
-      by : Told k (flat_map model_lines (answers_from obs (i + 1) ps samples k) ++ ys) → (b : Bool) → Told k (flat_map model_lines (answer_if b i (answer_at obs p samples k) (answers_from obs (i + 1) ps samples k)) ++ ys)
-      by others true =
-          let lines = model_lines (record { index = i; answer = answer_at obs p samples k }) in
-          subst (λ t. Told k t) (sym (append_assoc lines (flat_map model_lines (answers_from obs (i + 1) ps samples k)) ys))
-          (past-model p k i (flat_map model_lines (answers_from obs (i + 1) ps samples k) ++ ys) others)
-      by others false = others
+      by : (all_allowed any_justified obs ps lives cs samples k ≡ true → Told k (flat_map model_lines (answers_from obs (i + 1) ps lives cs samples k) ++ ys))
+          → (b allows : Bool) → allows_at any_justified obs p samples k c ≡ allows → (not b || allows) && all_allowed any_justified obs ps lives cs samples k ≡ true
+          → Told k (flat_map model_lines (answer_if b i (answer_with obs p samples k c) (answers_from obs (i + 1) ps lives cs samples k)) ++ ys)
+      by others true true e allowed =
+          let lines = model_lines (record { index = i; answer = answer_with obs p samples k c }) in
+          let rest = flat_map model_lines (answers_from obs (i + 1) ps lives cs samples k) in
+          subst (λ t. Told k t) (sym (append_assoc lines rest ys)) (past-model p k i c (rest ++ ys) e (others allowed))
+      by others true false e allowed = absurd cc
+      by others false allows e allowed = others allowed
 
   module _ (ps : List Plant) where
-    past-sample : (k before : ℕ) (ys : List Line) → Told k ys → Told before (sample_lines (sample_answer obs ps samples k) ++ ys)
-    past-sample k before ys h =
-        let s = sample_answer obs ps samples k in
+    past-sample : (k before : ℕ) (lives : List Bool) (cs : List (Option Certificate)) (ys : List Line) → all_allowed any_justified obs ps lives cs samples k ≡ true → Told k ys
+        → Told before (sample_lines (sample_answer obs ps lives cs samples k) ++ ys)
+    past-sample k before lives cs ys allowed h =
+        let s = sample_answer obs ps lives cs samples k in
         let models = flat_map model_lines s.models in
         let closing = possible (possible_models s.possible) ∷ verdict s.verdict ∷ [] in
-        let closed : Told k (models ++ (closing ++ ys)) = past-models k 0 ps (closing ++ ys) h in
+        let closed : Told k (models ++ (closing ++ ys)) = past-models k 0 ps lives cs (closing ++ ys) allowed h in
         subst (λ t. Told k t) (sym (append_assoc models closing ys)) closed
 
-    past-samples : (n before : ℕ) (ys : List Line) → ((k : ℕ) → Told k ys) → Told before (samples_lines obs ps samples n ++ ys)
-    unfolding samples_lines
-    past-samples zero before ys h = h before
-    past-samples (suc n) before ys h =
-        subst (λ t. Told before t) (sym (append_assoc (samples_lines obs ps samples n) (sample_lines (sample_answer obs ps samples n)) ys))
-        (past-samples n before (sample_lines (sample_answer obs ps samples n) ++ ys) (λ k. past-sample n k ys (h n)))
+    module _ (c : Choice) where
+      past-samples : (n before : ℕ) (ys : List Line) → ((k : ℕ) → k < n → all_allowed any_justified obs ps (lives_before c (length ps) k) (c k) samples k ≡ true) → ((k : ℕ) → Told k ys)
+          → Told before (samples_lines obs ps samples c n ++ ys)
+      unfolding samples_lines
+      past-samples zero before ys allowed h = h before
+      past-samples (suc n) before ys allowed h =
+          let lines = sample_lines (sample_answer obs ps (lives_before c (length ps) n) (c n) samples n) in
+          subst (λ t. Told before t) (sym (append_assoc (samples_lines obs ps samples c n) lines ys))
+          (past-samples n before (lines ++ ys) (λ k l. allowed k (omega arith)) (λ k. past-sample n k (lives_before c (length ps) n) (c n) ys (allowed n (omega arith)) (h n)))
 
     past-names : (j before : ℕ) (names : List (List ℕ)) (ys : List Line) → Told before ys → Told before (map (λ m. model m.0 m.1) (enumerate_from j names) ++ ys)
     past-names j before [] ys h = h
@@ -119,10 +143,12 @@ module _ (obs : Observer) (samples : List Sample) where
     last-told n true k = tt
     last-told n false k = tt
 
--- each miss of a report is told
-pub misses-told_whole : MissesAreTold
-misses-told_whole obs names ps samples is_whole =
-    let last = last_lines (length samples) is_whole in
-    let rest = past-samples obs samples ps (length samples) 0 last (last-told obs samples ps (length samples) is_whole) in
-    subst (λ t. MissesTold samples 0 None t) (sym (append_assoc (head_lines names) (samples_lines obs ps samples (length samples)) last))
-    (past-names obs samples ps 0 0 names (samples_lines obs ps samples (length samples) ++ last) rest)
+-- each miss of a printed interval is told in an accepted report
+pub misses-told : MissesAreTold
+misses-told o w lines r =
+    let n = length w.samples in
+    let last = last_lines n w.is_whole in
+    let rest = past-samples o w.samples w.plants r.choice n 0 last r.allowed (last-told o w.samples w.plants n w.is_whole) in
+    subst (MissesTold w.samples 0 None) (sym r.is)
+    (subst (MissesTold w.samples 0 None) (sym (append_assoc (head_lines w.names) (samples_lines o w.plants w.samples r.choice n) last))
+    (past-names o w.samples w.plants 0 0 w.names (samples_lines o w.plants w.samples r.choice n ++ last) rest))

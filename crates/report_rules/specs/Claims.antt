@@ -1,10 +1,10 @@
 -- What the lines of a report claim. The lines after `sample k`, up to the next such line, speak of sample k; `plant i` is model i.
-use Rattle.std.specs.Prelude.{◌≡◌, ℕ, ◌<◌, ℤ, List, [], ◌∷◌, Option, Some, None, if◌then◌else◌, slice_index_or}
+use Rattle.std.specs.Prelude.{◌≡◌, ℕ, ◌<◌, ℤ, true, List, [], ◌∷◌, Option, Some, None, if◌then◌else◌, slice_index_or}
 use Rattle.set_rules.specs.Columns.{at}
 use Rattle.set_rules.specs.Box.{IsBetween, hull as hull_of}
 use Rattle.plant_model.specs.Plant.{Plant, Sample, sample_at, reading_at, Trajectory, states_at, Obeys, Consistent}
-use Rattle.observer_step.specs.Predicted.{reading_misses, due}
-use Rattle.observer_step.specs.Answers.{Observer}
+use Rattle.observer_step.specs.Predicted.{reading_misses}
+use Rattle.observer_step.specs.Answers.{Observer, due_at}
 use Rattle.farkas_check.specs.Certificate.{by_out}
 use Rattle.report_text.specs.Line.{Line, sample, pred, exclude, hull}
 
@@ -61,8 +61,13 @@ MissesTold samples k (Some (i, o)) (line ∷ lines) = (line ≡ exclude i (by_ou
 MissesTold samples k None (sample j ∷ lines) = MissesTold samples j None lines
 MissesTold samples k None (line ∷ lines) = MissesTold samples k None lines
 
--- what an observer has to say rightly at the samples before n: its hulls hold every trajectory, and where an output is due there is none
+-- what an observer has to say rightly at the samples before n: its hulls hold every trajectory, and where an output is due,
+-- or multipliers refute the kept rows, there is none
 pub record IsSoundBefore (o : Observer) (samples : List Sample) (n : ℕ) : Type 0 where
   pub hulls_hold : (p : Plant) (k : ℕ) → k < n → (x : ℕ) → x < p.states → HoldsEvery p samples k x (hull_of (o.corrected p samples k) x)
-  pub due_has_none : (p : Plant) (k : ℕ) → k < n → (output : ℕ)
-      → due p (sample_at samples k) (o.predicted p samples k) ≡ Some output → ¬ Consistent p samples k
+  pub due_has_none : (p : Plant) (k : ℕ) → k < n → (output : ℕ) → due_at o p samples k ≡ Some output → ¬ Consistent p samples k
+  pub refuted_has_none : (p : Plant) (k : ℕ) → k < n → (ls : List ℤ) → o.refutes p samples k ls ≡ true → ¬ Consistent p samples k
+
+-- each candidate refutes the kept rows
+abbrev pub CandidatesRefute : Observer → Type 0
+CandidatesRefute o = (p : Plant) (samples : List Sample) (k : ℕ) (ls : List ℤ) → o.candidate p samples k ≡ Some ls → o.refutes p samples k ls ≡ true

@@ -1,25 +1,38 @@
--- The laws of whole reports: what their lines claim holds.
-use Rattle.std.specs.Prelude.{ℕ, List, length, None, Bool}
-use Rattle.plant_model.specs.Plant.{Plant, Sample}
-use Rattle.observer_step.specs.Answers.{Observer, zonotope_observer}
-use Rattle.report_rules.specs.Claims.{HullsHold, ExclusionsHold, MissesTold, IsSoundBefore, plant_at}
-use Rattle.report_rules.specs.Report.{report}
+-- The laws of reports: what their lines claim holds, and what `run` puts is accepted.
+use Rattle.std.specs.Prelude.{ℕ, List, length, None}
+use Rattle.plant_model.specs.Plant.{Sample}
+use Rattle.observer_step.specs.Answers.{Observer, any_justified, as_run_chooses, zonotope_observer}
+use Rattle.report_text.specs.Line.{Line}
+use Rattle.report_rules.specs.Claims.{HullsHold, ExclusionsHold, MissesTold, IsSoundBefore, CandidatesRefute, plant_at}
+use Rattle.report_rules.specs.Report.{Watch, IsReport, report, due_choice}
 
--- each hull of the report of a sound observer holds every trajectory of its model
+-- each hull of an accepted report of a sound observer holds every trajectory of its model
 abbrev pub HullsAreSound : Type 0
-HullsAreSound = (o : Observer) (names : List (List ℕ)) (ps : List Plant) (samples : List Sample) (is_whole : Bool)
-    → IsSoundBefore o samples (length samples) → HullsHold (plant_at ps) samples 0 (report o names ps samples is_whole)
+HullsAreSound = (o : Observer) (w : Watch) (lines : List Line) → IsSoundBefore o w.samples (length w.samples)
+    → IsReport any_justified o w lines → HullsHold (plant_at w.plants) w.samples 0 lines
 
--- each model that the report of a sound observer excludes has no trajectory
+-- each model that an accepted report of a sound observer excludes has no trajectory
 abbrev pub ExclusionsAreSound : Type 0
-ExclusionsAreSound = (o : Observer) (names : List (List ℕ)) (ps : List Plant) (samples : List Sample) (is_whole : Bool)
-    → IsSoundBefore o samples (length samples) → ExclusionsHold (plant_at ps) samples 0 (report o names ps samples is_whole)
+ExclusionsAreSound = (o : Observer) (w : Watch) (lines : List Line) → IsSoundBefore o w.samples (length w.samples)
+    → IsReport any_justified o w lines → ExclusionsHold (plant_at w.plants) w.samples 0 lines
 
--- each miss of a printed interval is told, whatever the observer is
+-- each miss of a printed interval is told in an accepted report, whatever the observer is
 abbrev pub MissesAreTold : Type 0
-MissesAreTold = (o : Observer) (names : List (List ℕ)) (ps : List Plant) (samples : List Sample) (is_whole : Bool)
-    → MissesTold samples 0 None (report o names ps samples is_whole)
+MissesAreTold = (o : Observer) (w : Watch) (lines : List Line) → IsReport any_justified o w lines → MissesTold w.samples 0 None lines
 
 -- the zonotope that is predicted and corrected is sound at every sample
 abbrev pub ZonotopeIsSound : Type 0
 ZonotopeIsSound = (samples : List Sample) (n : ℕ) → IsSoundBefore zonotope_observer samples n
+
+-- its candidates refute, since it has none
+abbrev pub ZonotopeRefutes : Type 0
+ZonotopeRefutes = CandidatesRefute zonotope_observer
+
+-- what `run` may put is accepted
+abbrev pub RunIsAccepted : Type 0
+RunIsAccepted = (o : Observer) (w : Watch) (lines : List Line) → CandidatesRefute o
+    → IsReport as_run_chooses o w lines → IsReport any_justified o w lines
+
+-- the report with the certificates that are due is one that `run` may put
+abbrev pub DueIsChosen : Type 0
+DueIsChosen = (w : Watch) → IsReport as_run_chooses zonotope_observer w (report zonotope_observer w (due_choice zonotope_observer w))

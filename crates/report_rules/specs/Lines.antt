@@ -1,11 +1,9 @@
 -- The lines of a report that are determined by the answers of the observer.
-use Rattle.std.specs.Prelude.{ℕ, zero, suc, ℤ, Bool, List, [], ◌∷◌, ◌++◌, map, flat_map, Option, Some, None, not, if◌then◌else◌}
+use Rattle.std.specs.Prelude.{ℕ, ℤ, Bool, List, [], ◌∷◌, ◌++◌, map, flat_map, Option, Some, None, not, if◌then◌else◌}
 use Rattle.std.specs.List.{enumerate_from}
 use Rattle.farkas_check.specs.Certificate.{Certificate}
 use Rattle.isolate_core.specs.Verdict.{verdict_of, possible_models}
-use Rattle.plant_model.specs.Plant.{Plant, Sample}
-use Rattle.observer_step.specs.Answers.{Observer}
-use Rattle.model_bank.specs.Answers.{ModelAnswer, SampleAnswer, sample_answer}
+use Rattle.model_bank.specs.Answers.{ModelAnswer, SampleAnswer}
 use Rattle.report_text.specs.Line.{Line, title, model, sample, pred, exclude, hull, status, possible, verdict, end}
 
 -- the title and the models' names
@@ -36,11 +34,6 @@ closing_lines is = possible is ∷ verdict (verdict_of is) ∷ []
 -- the lines of a sample
 abbrev pub sample_lines : SampleAnswer → List Line
 sample_lines s = sample s.k ∷ flat_map model_lines s.models ++ possible (possible_models s.possible) ∷ verdict s.verdict ∷ []
-
--- the lines of the first n samples
-unfoldable pub samples_lines : Observer → List Plant → List Sample → ℕ → List Line
-samples_lines o ps samples zero = []
-samples_lines o ps samples (suc n) = samples_lines o ps samples n ++ sample_lines (sample_answer o ps samples n)
 
 -- the last line stands exactly where the telemetry was read to its end
 abbrev pub last_lines : ℕ → Bool → List Line

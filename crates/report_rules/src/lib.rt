@@ -1,13 +1,25 @@
-//! What a report has to say, and what its lines claim of the trajectories of the models. Definitions stand in `specs/`; the laws of whole
+//! What a report has to say, and what its lines claim of the trajectories of the models. Definitions stand in `specs/`; the laws of
 //! reports are the contract of `laws`.
 #![tactic(auto)]
 
-ghost use Rattle.report_rules.specs.Laws.{HullsAreSound, ExclusionsAreSound, MissesAreTold, ZonotopeIsSound};
+ghost use Rattle.report_rules.specs.Laws.{
+  HullsAreSound,
+  ExclusionsAreSound,
+  MissesAreTold,
+  ZonotopeIsSound,
+  ZonotopeRefutes,
+  RunIsAccepted,
+  DueIsChosen,
+};
 
-/// The laws of whole reports: hulls hold every trajectory, an excluded model has none, and a missed interval is told.
+/// The laws of reports: hulls hold every trajectory, an excluded model has none, a missed interval is told, and what `run` may put is
+/// accepted.
 pub fn laws()
     ensures hulls { HullsAreSound }
     ensures exclusions { ExclusionsAreSound }
     ensures misses { MissesAreTold }
     ensures zonotope { ZonotopeIsSound }
+    ensures candidates { ZonotopeRefutes }
+    ensures run { RunIsAccepted }
+    ensures due { DueIsChosen }
 {}
