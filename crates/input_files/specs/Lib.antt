@@ -1,0 +1,6 @@
+pub mod Whole
+pub mod Judged
+pub mod Stream
+pub mod Left
+pub mod Files
+pub mod Told
