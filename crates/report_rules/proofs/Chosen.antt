@@ -88,9 +88,9 @@ dues-chosen (p ∷ ps) (live ∷ lives) samples k e =
 -- the report with the certificates that are due is one that `run` may put
 pub due-chosen : DueIsChosen
 due-chosen w = record {
-  choice = due_choice zonotope_observer w;
-  allowed = λ k l. dues-chosen w.plants (lives_before (due_choice zonotope_observer w) (length w.plants) k) w.samples k
-      (length-lives_before (due_choice zonotope_observer w) (length w.plants) k (λ j m. length-map w.plants (λ p. certificate_at zonotope_observer p w.samples j)));
+  choice = due_choice zonotope_observer w.plants w.samples;
+  allowed = λ k l. dues-chosen w.plants (lives_before (due_choice zonotope_observer w.plants w.samples) (length w.plants) k) w.samples k
+      (length-lives_before (due_choice zonotope_observer w.plants w.samples) (length w.plants) k (λ j m. length-map w.plants (λ p. certificate_at zonotope_observer p w.samples j)));
   is = refl;
 }
 

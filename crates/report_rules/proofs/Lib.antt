@@ -1,3 +1,4 @@
 pub mod Hulls
 pub mod Misses
 pub mod Chosen
+pub mod Later

@@ -35,4 +35,4 @@ RunIsAccepted = (o : Observer) (w : Watch) (lines : List Line) → CandidatesRef
 
 -- the report with the certificates that are due is one that `run` may put
 abbrev pub DueIsChosen : Type 0
-DueIsChosen = (w : Watch) → IsReport as_run_chooses zonotope_observer w (report zonotope_observer w (due_choice zonotope_observer w))
+DueIsChosen = (w : Watch) → IsReport as_run_chooses zonotope_observer w (report zonotope_observer w (due_choice zonotope_observer w.plants w.samples))

@@ -39,8 +39,8 @@ AllowedBefore rule o w c n =
     (k : ℕ) → k < n → all_allowed rule o w.plants (lives_before c (length w.plants) k) (c k) w.samples k ≡ true
 
 -- the certificates that are due
-abbrev pub due_choice : Observer → Watch → Choice
-due_choice o w k = certificates_at o w.plants w.samples k
+abbrev pub due_choice : Observer → List Plant → List Sample → Choice
+due_choice o ps samples k = certificates_at o ps samples k
 
 -- ---- under a rule
 
