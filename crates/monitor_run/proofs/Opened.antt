@@ -15,14 +15,18 @@ use Rattle.report_rules.specs.Lines.{head_lines}
 use Rattle.monitor_run.specs.declared.done.Done.{Done}
 use Rattle.monitor_run.specs.declared.done.RunFault.{RunFault}
 use Rattle.monitor_run.specs.declared.done.RunFault.TheVariants.{Model, Telemetry, Read, Write, Memory}
-use Rattle.monitor_run.specs.declared.stream.StreamFault.{StreamFault}
-use Rattle.monitor_run.specs.declared.stream.StreamFault.TheVariants as stream
-use Rattle.monitor_run.specs.Stream.{BothTold}
-use Rattle.monitor_run.specs.Files.{Files, bad_header, monitored, with_telemetry, files_with, with_models, files_of, model_refusal, report_of, report_of_rows, most_telemetry}
-use Rattle.monitor_run.specs.Outcome.{OnBytes, SaysOfModel, SaysOfFiles, PutsReport, PutsNothing}
-use Rattle.monitor_run.specs.Rows.{rows_lines, SaysOfRows, ReadsRows, ending_of}
-use Rattle.monitor_run.specs.Judged.{JudgesModel, ReadsModel}
-use Rattle.monitor_run.proofs.Models.{accepted-is}
+use Rattle.input_files.specs.declared.stream.StreamFault.{StreamFault}
+use Rattle.input_files.specs.declared.stream.StreamFault.TheVariants as stream
+use Rattle.input_files.specs.Stream.{BothTold}
+use Rattle.input_files.specs.Files.{Files, bad_header, monitored, with_telemetry, files_with, with_models, files_of, model_refusal, most_telemetry}
+use Rattle.input_files.specs.Told.{OnBytes}
+use Rattle.input_files.specs.declared.model.ModelEnding.{ModelEnding}
+use Rattle.input_files.specs.declared.model.ModelEnding.TheVariants as models
+use Rattle.monitor_run.specs.Reports.{report_of, report_of_rows}
+use Rattle.monitor_run.specs.Outcome.{SaysOfModel, SaysOfFiles, PutsReport, PutsNothing}
+use Rattle.monitor_run.specs.Rows.{rows_lines, SaysOfRows, ReadsRows, ending_of, model_ending}
+use Rattle.input_files.specs.Judged.{JudgesModel}
+use Rattle.input_files.proofs.Models.{accepted-is}
 use Rattle.monitor_run.proofs.Turns.{told-some, lines-append}
 
 pub if-some : (o : Option (List ℕ)) (P Q : List ℕ → Type 0) → ((x : List ℕ) → P x → Q x) → IfSome o P → IfSome o Q
@@ -151,36 +155,30 @@ module _ (ms : Models) (model telemetry' : Option (List ℕ)) (read : IfSome mod
   rows-nothing (Err Memory) held held' ending = tt
 
 -- an ending at the model file
-module _ (e : RunFault) (ending : ReadsModel e) where
-  pub judged-says : (model : Option (List ℕ)) → IfSome model (JudgesModel e) → IfSome model (SaysOfModel (Err e))
-  judged-says model h = if-some model _ _ (λ m p. by e m ending p) h
+module _ (e : ModelEnding) (r : RunFault) (is : r ≡ model_ending e) where
+  pub judged-says : (model : Option (List ℕ)) → IfSome model (JudgesModel e) → IfSome model (SaysOfModel (Err r))
+  judged-says model h = subst (λ r. IfSome model (SaysOfModel (Err r))) (sym is) (if-some model _ _ (by e) h)
     where
-      by : (e : RunFault) (m : List ℕ) → ReadsModel e → JudgesModel e m → SaysOfModel (Err e) m
-      by (Model fault) m ending p = p
-      by (Telemetry fault) m ending p = absurd ending
-      by (Read slot) m ending p = λ other. absurd (other ending)
-      by Write m ending p = absurd ending
-      by Memory m ending p = tt
+      by : (e : ModelEnding) (m : List ℕ) → JudgesModel e m → SaysOfModel (Err (model_ending e)) m
+      by (models.Refused fault) m p = p
+      by models.Read m p = λ other. absurd (other refl)
+      by models.Memory m p = tt
 
-  pub judged-files : (f : Files) → SaysOfFiles (Err e) f
-  judged-files f = by e ending
+  pub judged-files : (f : Files) → SaysOfFiles (Err r) f
+  judged-files f = subst (λ r. SaysOfFiles (Err r) f) (sym is) (by e)
     where
-      by : (e : RunFault) → ReadsModel e → SaysOfFiles (Err e) f
-      by (Model fault) ending = tt
-      by (Telemetry fault) ending = absurd ending
-      by (Read slot) ending = tt
-      by Write ending = absurd ending
-      by Memory ending = tt
+      by : (e : ModelEnding) → SaysOfFiles (Err (model_ending e)) f
+      by (models.Refused fault) = tt
+      by models.Read = tt
+      by models.Memory = tt
 
-  pub judged-puts : (held : SinkState) (lines : List Line) → PutsReport lines held (Err e) held
-  judged-puts held lines = by e ending
+  pub judged-puts : (held : SinkState) (lines : List Line) → PutsReport lines held (Err r) held
+  judged-puts held lines = subst (λ r. PutsReport lines held (Err r) held) (sym is) (by e)
     where
-      by : (e : RunFault) → ReadsModel e → PutsReport lines held (Err e) held
-      by (Model fault) ending = refl
-      by (Telemetry fault) ending = absurd ending
-      by (Read slot) ending = no-front held.held (lines_text lines)
-      by Write ending = absurd ending
-      by Memory ending = no-front held.held (lines_text lines)
+      by : (e : ModelEnding) → PutsReport lines held (Err (model_ending e)) held
+      by (models.Refused fault) = refl
+      by models.Read = no-front held.held (lines_text lines)
+      by models.Memory = no-front held.held (lines_text lines)
 
 pub on-both : (model telemetry' : Option (List ℕ)) (P : List ℕ → List ℕ → Type 0) → ((m t : List ℕ) → P m t) → OnBytes model telemetry' P
 on-both model telemetry' P f = of-some model _ (λ m. of-some telemetry' _ (λ t. f m t))

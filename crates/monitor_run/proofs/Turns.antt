@@ -1,5 +1,5 @@
 -- The turns of a run over the rows of a telemetry.
-use Rattle.std.proofs.Common.{◌≡◌, ℕ, ◌+◌, zero, suc, List, [], ◌∷◌, ◌++◌, length, Option, Some, None, IfSome, Result, Ok, Err, IfOk, IfErr, OnOk, OnErr, refl, sym, ap, ◌∙◌, subst, arith, append_assoc, append-nil, length-append, is_none}
+use Rattle.std.proofs.Common.{◌≡◌, ℕ, ◌+◌, zero, suc, List, [], ◌∷◌, ◌++◌, length, Option, Some, None, IfSome, Result, Ok, Err, IfOk, IfErr, OnOk, OnErr, refl, sym, ap, ◌∙◌, subst, arith, append_assoc, append-nil, length-append, is_none, replicate, true}
 use Rattle.outside_io.specs.Sink.{SinkState, Gains, GainsFront}
 use Rattle.outside_io.proofs.Grows.{appends_more, appends_none}
 use Rattle.outside_io.proofs.Fronts.{front-after, front-before, whole-front}
@@ -12,26 +12,28 @@ use Rattle.observer_step.specs.Answers.{zonotope_observer}
 use Rattle.model_bank.specs.Answers.{SampleAnswer, sample_answer}
 use Rattle.model_bank.specs.Bank.{Bank, BankStands}
 use Rattle.report_text.specs.Line.{Line, lines_text, put_text, end}
-use Rattle.monitor_run.proofs.Streams.{told-then}
-use Rattle.monitor_run.proofs.Later.{lines-same, lines-more}
+use Rattle.input_files.proofs.Streams.{told-then}
+use Rattle.report_rules.proofs.Later.{due-lines-same, due-lines-more, due-lives-more}
 use Rattle.std.proofs.lemmas.Grind.{flat_map-append}
-use Rattle.report_rules.specs.Lines.{samples_lines, sample_lines, last_lines}
-use Rattle.monitor_run.specs.Stream.{BothTold, with_sample}
+use Rattle.report_rules.specs.Lines.{sample_lines, last_lines}
+use Rattle.report_rules.specs.Report.{samples_lines, lives_before, due_choice}
+use Rattle.model_bank.specs.Stepping.{RecordsSample, StandsLonger}
+use Rattle.input_files.specs.Stream.{BothTold, with_sample}
 use Rattle.outside_io.specs.declared.sink.PutFault.{PutFault}
 use Rattle.outside_io.specs.declared.sink.PutFault.TheVariants as put
 use Rattle.monitor_run.specs.declared.done.Done.{Done}
 use Rattle.monitor_run.specs.declared.done.RunFault.{RunFault}
 use Rattle.monitor_run.specs.declared.done.RunFault.TheVariants.{Model, Telemetry, Read, Write, Memory}
-use Rattle.monitor_run.specs.declared.stream.StreamFault.{StreamFault}
-use Rattle.monitor_run.specs.declared.stream.StreamFault.TheVariants as stream
+use Rattle.input_files.specs.declared.stream.StreamFault.{StreamFault}
+use Rattle.input_files.specs.declared.stream.StreamFault.TheVariants as stream
 use Rattle.monitor_run.specs.Outcome.{PutsReport}
-use Rattle.monitor_run.specs.Rows.{rows_lines, behind, SaysOfRows, IsPutEnding, ending_of, put_ending}
+use Rattle.monitor_run.specs.Rows.{rows_lines, due_lines, StandsDue, behind, SaysOfRows, IsPutEnding, ending_of, put_ending}
 
 -- after these samples: the bank stands for them, their lines were put, and the rest of the telemetry is what it owed less these samples
 pub record Monitored (head : Columns) (bank0 bank : Bank) (c0 c : Cutter) (left0 left : List ℕ) (rest0 rest : Option (List ℕ)) (held0 held : SinkState) (taken : List Sample) : Type 0 where
-  pub stands : (ps : List Plant) → BankStands ps [] bank0 → BankStands ps taken bank
+  pub stands : (ps : List Plant) → StandsDue ps [] bank0 → StandsDue ps taken bank
   pub counts : bank.count ≡ length taken
-  pub puts : (ps : List Plant) → BankStands ps [] bank0 → Gains (lines_text (samples_lines zonotope_observer ps taken (length taken))) held0 held
+  pub puts : (ps : List Plant) → StandsDue ps [] bank0 → Gains (lines_text (due_lines ps taken (length taken))) held0 held
   pub owes : BothTold rest0 rest (λ r r'. rows_owed head c0 (left0 ++ r) ≡ behind taken (rows_owed head c (left ++ r')))
 
 -- a claim on what was there, from what is told of it and of what is there now
@@ -48,36 +50,37 @@ pub lines-append : (xs ys : List Line) → lines_text (xs ++ ys) ≡ lines_text 
 lines-append xs ys = flat_map-append put_text xs ys
 
 -- more samples put more lines behind those of the first ones
-lines-longer : (ps : List Plant) (samples : List Sample) (n j : ℕ) → (tail : List Line) × (samples_lines zonotope_observer ps samples (n + j) ≡ samples_lines zonotope_observer ps samples n ++ tail)
+lines-longer : (ps : List Plant) (samples : List Sample) (n j : ℕ) → (tail : List Line) × (due_lines ps samples (n + j) ≡ due_lines ps samples n ++ tail)
 unfolding samples_lines
-lines-longer ps samples n zero = let e : n + 0 ≡ n = omega arith in ([], rw e (sym (append-nil (samples_lines zonotope_observer ps samples n))))
+lines-longer ps samples n zero = let e : n + 0 ≡ n = omega arith in ([], rw e (sym (append-nil (due_lines ps samples n))))
 lines-longer ps samples n (suc j) =
     let before = lines-longer ps samples n j in
     let e : n + suc j ≡ suc (n + j) = omega arith in
-    let last = sample_lines (sample_answer zonotope_observer ps samples (n + j)) in
-    (before.0 ++ last, ap (samples_lines zonotope_observer ps samples) e ∙ ap (λ ls. ls ++ last) before.1 ∙ append_assoc (samples_lines zonotope_observer ps samples n) before.0 last)
+    let c = due_choice zonotope_observer ps samples in
+    let last = sample_lines (sample_answer zonotope_observer ps (lives_before c (length ps) (n + j)) (c (n + j)) samples (n + j)) in
+    (before.0 ++ last, ap (due_lines ps samples) e ∙ ap (λ ls. ls ++ last) before.1 ∙ append_assoc (due_lines ps samples n) before.0 last)
 
 -- the lines of the samples taken are a front of those of all rows
-rows-longer : (ps : List Plant) (taken : List Sample) (rows : Rows) → (tail : List Line) × (rows_lines ps (behind taken rows) ≡ samples_lines zonotope_observer ps taken (length taken) ++ tail)
+rows-longer : (ps : List Plant) (taken : List Sample) (rows : Rows) → (tail : List Line) × (rows_lines ps (behind taken rows) ≡ due_lines ps taken (length taken) ++ tail)
 rows-longer ps taken rows =
     let all = taken ++ rows.samples in
     let last = last_lines (length all) (is_none rows.refusal) in
     let more = lines-longer ps all (length taken) (length rows.samples) in
     let whole : length all ≡ length taken + length rows.samples = length-append taken rows.samples in (
       more.0 ++ last,
-      ap (λ n. samples_lines zonotope_observer ps all n ++ last) whole ∙ ap (λ ls. ls ++ last) more.1
-          ∙ append_assoc (samples_lines zonotope_observer ps all (length taken)) more.0 last
-          ∙ ap (λ ls. ls ++ (more.0 ++ last)) (lines-same taken rows.samples ps (length taken) (omega arith)),
+      ap (λ n. due_lines ps all n ++ last) whole ∙ ap (λ ls. ls ++ last) more.1
+          ∙ append_assoc (due_lines ps all (length taken)) more.0 last
+          ∙ ap (λ ls. ls ++ (more.0 ++ last)) (due-lines-same ps taken rows.samples (length taken) (omega arith)),
     )
 
 module _ {head : Columns} {bank0 bank : Bank} {c0 c : Cutter} {left0 left : List ℕ} {rest0 rest : Option (List ℕ)} {held0 held : SinkState} {taken : List Sample}
     (m : Monitored head bank0 bank c0 c left0 left rest0 rest held0 held taken) where
-  module _ (ps : List Plant) (stands : BankStands ps [] bank0) where
+  module _ (ps : List Plant) (stands : StandsDue ps [] bank0) where
     -- what was put, and a front of what comes next, is a front of the whole
-    cut-short : (rows : Rows) (held' : SinkState) (more : List Line) (tail : List Line) → rows_lines ps rows ≡ samples_lines zonotope_observer ps taken (length taken) ++ (more ++ tail)
+    cut-short : (rows : Rows) (held' : SinkState) (more : List Line) (tail : List Line) → rows_lines ps rows ≡ due_lines ps taken (length taken) ++ (more ++ tail)
         → GainsFront (lines_text more) held held' → GainsFront (lines_text (rows_lines ps rows)) held0 held'
     cut-short rows held' more tail is put =
-        let so_far = samples_lines zonotope_observer ps taken (length taken) in
+        let so_far = due_lines ps taken (length taken) in
         let text : lines_text (rows_lines ps rows) ≡ (lines_text so_far ++ lines_text more) ++ lines_text tail =
         ap lines_text is ∙ lines-append so_far (more ++ tail) ∙ ap (λ t. lines_text so_far ++ t) (lines-append more tail) ∙ sym (append_assoc (lines_text so_far) (lines_text more) (lines_text tail)) in
         subst (λ t. GainsFront t held0 held') (sym text)
@@ -88,8 +91,8 @@ module _ {head : Columns} {bank0 bank : Bank} {c0 c : Cutter} {left0 left : List
     so-far = told-some rest0 rest (λ r r'. rows_owed head c0 (left0 ++ r) ≡ behind taken (rows_owed head c (left ++ r'))) (λ r. GainsFront (lines_text (rows_lines ps (rows_owed head c0 (left0 ++ r)))) held0 held)
         (λ r r' e.
         let longer = rows-longer ps taken (rows_owed head c (left ++ r')) in
-        let text = ap (λ rows. lines_text (rows_lines ps rows)) e ∙ ap lines_text longer.1 ∙ lines-append (samples_lines zonotope_observer ps taken (length taken)) longer.0 in
-        subst (λ t. GainsFront t held0 held) (sym text) (whole-front held0.held held.held (lines_text (samples_lines zonotope_observer ps taken (length taken))) (lines_text longer.0) (m.puts ps stands)))
+        let text = ap (λ rows. lines_text (rows_lines ps rows)) e ∙ ap lines_text longer.1 ∙ lines-append (due_lines ps taken (length taken)) longer.0 in
+        subst (λ t. GainsFront t held0 held) (sym text) (whole-front held0.held held.held (lines_text (due_lines ps taken (length taken))) (lines_text longer.0) (m.puts ps stands)))
         m.owes
 
   module _ (c' : Cutter) (left' : List ℕ) (rest' : Option (List ℕ)) (s : Sample)
@@ -102,32 +105,35 @@ module _ {head : Columns} {bank0 bank : Bank} {c0 c : Cutter} {left0 left : List
         moved rows = ap (λ ss. let both : Rows = record { samples = ss; refusal = rows.refusal } in both) (sym (append_assoc taken (s ∷ []) rows.samples))
 
     module _ (bank' : Bank) (answer : SampleAnswer) (held' : SinkState)
-        (stands' : (ps : List Plant) (samples : List Sample) → BankStands ps samples bank → BankStands ps (samples ++ s ∷ []) bank')
-        (answer-is : (ps : List Plant) (samples : List Sample) → BankStands ps samples bank → answer ≡ sample_answer zonotope_observer ps (samples ++ s ∷ []) (length samples)) where
+        (stands' : StandsLonger s bank bank') (answer-is : RecordsSample s bank answer) where
       -- the lines of all samples, with those of this one
-      more-lines : (ps : List Plant) → BankStands ps [] bank0 → samples_lines zonotope_observer ps (taken ++ s ∷ []) (length (taken ++ s ∷ [])) ≡ samples_lines zonotope_observer ps taken (length taken) ++ sample_lines answer
+      more-lines : (ps : List Plant) → StandsDue ps [] bank0 → due_lines ps (taken ++ s ∷ []) (length (taken ++ s ∷ [])) ≡ due_lines ps taken (length taken) ++ sample_lines answer
       more-lines ps stands =
           let n : length (taken ++ s ∷ []) ≡ length taken + 1 = length-append taken (s ∷ []) in
-          ap (samples_lines zonotope_observer ps (taken ++ s ∷ [])) n ∙ lines-more ps taken s
-          ∙ ap (λ a. samples_lines zonotope_observer ps taken (length taken) ++ sample_lines a) (sym (answer-is ps taken (m.stands ps stands)))
+          ap (due_lines ps (taken ++ s ∷ [])) n ∙ due-lines-more ps taken s
+          ∙ ap (λ a. due_lines ps taken (length taken) ++ sample_lines a) (sym (answer-is ps taken (lives_before (due_choice zonotope_observer ps taken) (length ps) (length taken)) (m.stands ps stands)))
 
       -- one more sample was taken and its lines were put
       pub one-more : bank'.count ≡ bank.count + 1 → Gains (lines_text (sample_lines answer)) held held' → Monitored head bank0 bank' c0 c' left0 left' rest0 rest' held0 held' (taken ++ s ∷ [])
       one-more count put = record {
-        stands = λ ps stands. stands' ps taken (m.stands ps stands);
+        stands = λ ps stands.
+            let lives = lives_before (due_choice zonotope_observer ps taken) (length ps) (length taken) in
+            subst (λ lives. BankStands ps (taken ++ s ∷ []) lives bank')
+            (sym (ap (lives_before (due_choice zonotope_observer ps (taken ++ s ∷ [])) (length ps)) (length-append taken (s ∷ [])) ∙ due-lives-more ps taken s))
+            (stands' ps taken lives (m.stands ps stands));
         counts = count ∙ ap (λ n. n + 1) m.counts ∙ sym (length-append taken (s ∷ []));
-        puts = λ ps stands. appends_more held0.held held.held held'.held _ _ _ (m.puts ps stands) put (ap lines_text (more-lines ps stands) ∙ lines-append (samples_lines zonotope_observer ps taken (length taken)) (sample_lines answer));
+        puts = λ ps stands. appends_more held0.held held.held held'.held _ _ _ (m.puts ps stands) put (ap lines_text (more-lines ps stands) ∙ lines-append (due_lines ps taken (length taken)) (sample_lines answer));
         owes = owes-more;
       }
 
       -- a front of its lines was put
-      pub front-more : (ps : List Plant) → BankStands ps [] bank0 → GainsFront (lines_text (sample_lines answer)) held held'
+      pub front-more : (ps : List Plant) → StandsDue ps [] bank0 → GainsFront (lines_text (sample_lines answer)) held held'
           → IfSome rest0 (λ r. GainsFront (lines_text (rows_lines ps (rows_owed head c0 (left0 ++ r)))) held0 held')
       front-more ps stands put = told-some rest0 rest' (λ r r'. rows_owed head c0 (left0 ++ r) ≡ behind (taken ++ s ∷ []) (rows_owed head c' (left' ++ r'))) (λ r. GainsFront (lines_text (rows_lines ps (rows_owed head c0 (left0 ++ r)))) held0 held')
           (λ r r' e.
           let longer = rows-longer ps (taken ++ s ∷ []) (rows_owed head c' (left' ++ r')) in
           cut-short ps stands (rows_owed head c0 (left0 ++ r)) held' (sample_lines answer) longer.0
-          (ap (rows_lines ps) e ∙ longer.1 ∙ ap (λ ls. ls ++ longer.0) (more-lines ps stands) ∙ append_assoc (samples_lines zonotope_observer ps taken (length taken)) (sample_lines answer) longer.0) put)
+          (ap (rows_lines ps) e ∙ longer.1 ∙ ap (λ ls. ls ++ longer.0) (more-lines ps stands) ∙ append_assoc (due_lines ps taken (length taken)) (sample_lines answer) longer.0) put)
           owes-more
 
   -- a row was refused
@@ -139,12 +145,12 @@ module _ {head : Columns} {bank0 bank : Bank} {c0 c : Cutter} {left0 left : List
     pub refused-says : IfSome rest0 (λ r. (rows_owed head c0 (left0 ++ r)).refusal ≡ Some fault)
     refused-says = told-some rest0 rest' (λ r r'. rows_owed head c0 (left0 ++ r) ≡ behind taken (refused_rows fault)) (λ r. (rows_owed head c0 (left0 ++ r)).refusal ≡ Some fault) (λ r r' e. ap (λ (rows : Rows). rows.refusal) e) refused-is
 
-    pub refused-puts : (ps : List Plant) → BankStands ps [] bank0 → IfSome rest0 (λ r. Gains (lines_text (rows_lines ps (rows_owed head c0 (left0 ++ r)))) held0 held)
+    pub refused-puts : (ps : List Plant) → StandsDue ps [] bank0 → IfSome rest0 (λ r. Gains (lines_text (rows_lines ps (rows_owed head c0 (left0 ++ r)))) held0 held)
     refused-puts ps stands = told-some rest0 rest' (λ r r'. rows_owed head c0 (left0 ++ r) ≡ behind taken (refused_rows fault)) (λ r. Gains (lines_text (rows_lines ps (rows_owed head c0 (left0 ++ r)))) held0 held)
         (λ r r' e.
         let none = append-nil taken in
-        let text : rows_lines ps (rows_owed head c0 (left0 ++ r)) ≡ samples_lines zonotope_observer ps taken (length taken) =
-        ap (rows_lines ps) e ∙ append-nil (samples_lines zonotope_observer ps (taken ++ []) (length (taken ++ []))) ∙ ap (λ ss. samples_lines zonotope_observer ps ss (length ss)) none in
+        let text : rows_lines ps (rows_owed head c0 (left0 ++ r)) ≡ due_lines ps taken (length taken) =
+        ap (rows_lines ps) e ∙ append-nil (due_lines ps (taken ++ []) (length (taken ++ []))) ∙ ap (λ ss. due_lines ps ss (length ss)) none in
         subst (λ ls. Gains (lines_text ls) held0 held) (sym text) (m.puts ps stands))
         refused-is
 
@@ -158,19 +164,24 @@ module _ {head : Columns} {bank0 bank : Bank} {c0 c : Cutter} {left0 left : List
     all-says = told-some rest0 rest' (λ r r'. rows_owed head c0 (left0 ++ r) ≡ behind taken no_rows) (λ r. ((rows_owed head c0 (left0 ++ r)).refusal ≡ None) × (bank.count ≡ length (rows_owed head c0 (left0 ++ r)).samples))
         (λ r r' e. (ap (λ (rows : Rows). rows.refusal) e, m.counts ∙ sym (ap (λ (rows : Rows). length rows.samples) e ∙ ap length (append-nil taken)))) all-is
 
-    all-lines : (ps : List Plant) (rows : Rows) → rows ≡ behind taken no_rows → rows_lines ps rows ≡ samples_lines zonotope_observer ps taken (length taken) ++ (end bank.count ∷ [])
-    all-lines ps rows e = ap (rows_lines ps) e ∙ ap (λ ss. samples_lines zonotope_observer ps ss (length ss) ++ (end (length ss) ∷ [])) (append-nil taken) ∙ ap (λ n. samples_lines zonotope_observer ps taken (length taken) ++ (end n ∷ [])) (sym m.counts)
+    all-lines : (ps : List Plant) (rows : Rows) → rows ≡ behind taken no_rows → rows_lines ps rows ≡ due_lines ps taken (length taken) ++ (end bank.count ∷ [])
+    all-lines ps rows e = ap (rows_lines ps) e ∙ ap (λ ss. due_lines ps ss (length ss) ++ (end (length ss) ∷ [])) (append-nil taken) ∙ ap (λ n. due_lines ps taken (length taken) ++ (end n ∷ [])) (sym m.counts)
 
-    pub all-puts : (held' : SinkState) (ps : List Plant) → BankStands ps [] bank0 → Gains (lines_text (end bank.count ∷ [])) held held' → IfSome rest0 (λ r. Gains (lines_text (rows_lines ps (rows_owed head c0 (left0 ++ r)))) held0 held')
+    pub all-puts : (held' : SinkState) (ps : List Plant) → StandsDue ps [] bank0 → Gains (lines_text (end bank.count ∷ [])) held held' → IfSome rest0 (λ r. Gains (lines_text (rows_lines ps (rows_owed head c0 (left0 ++ r)))) held0 held')
     all-puts held' ps stands put = told-some rest0 rest' (λ r r'. rows_owed head c0 (left0 ++ r) ≡ behind taken no_rows) (λ r. Gains (lines_text (rows_lines ps (rows_owed head c0 (left0 ++ r)))) held0 held')
-        (λ r r' e. appends_more held0.held held.held held'.held _ _ _ (m.puts ps stands) put (ap lines_text (all-lines ps (rows_owed head c0 (left0 ++ r)) e) ∙ lines-append (samples_lines zonotope_observer ps taken (length taken)) (end bank.count ∷ []))) all-is
+        (λ r r' e. appends_more held0.held held.held held'.held _ _ _ (m.puts ps stands) put (ap lines_text (all-lines ps (rows_owed head c0 (left0 ++ r)) e) ∙ lines-append (due_lines ps taken (length taken)) (end bank.count ∷ []))) all-is
 
-    pub all-front : (held' : SinkState) (ps : List Plant) → BankStands ps [] bank0 → GainsFront (lines_text (end bank.count ∷ [])) held held' → IfSome rest0 (λ r. GainsFront (lines_text (rows_lines ps (rows_owed head c0 (left0 ++ r)))) held0 held')
+    pub all-front : (held' : SinkState) (ps : List Plant) → StandsDue ps [] bank0 → GainsFront (lines_text (end bank.count ∷ [])) held held' → IfSome rest0 (λ r. GainsFront (lines_text (rows_lines ps (rows_owed head c0 (left0 ++ r)))) held0 held')
     all-front held' ps stands put = told-some rest0 rest' (λ r r'. rows_owed head c0 (left0 ++ r) ≡ behind taken no_rows) (λ r. GainsFront (lines_text (rows_lines ps (rows_owed head c0 (left0 ++ r)))) held0 held')
         (λ r r' e.
-        let text : lines_text (rows_lines ps (rows_owed head c0 (left0 ++ r))) ≡ lines_text (samples_lines zonotope_observer ps taken (length taken)) ++ lines_text (end bank.count ∷ []) =
-        ap lines_text (all-lines ps (rows_owed head c0 (left0 ++ r)) e) ∙ lines-append (samples_lines zonotope_observer ps taken (length taken)) (end bank.count ∷ []) in
-        subst (λ t. GainsFront t held0 held') (sym text) (front-after held0.held held.held held'.held (lines_text (samples_lines zonotope_observer ps taken (length taken))) (lines_text (end bank.count ∷ [])) (m.puts ps stands) put)) all-is
+        let text : lines_text (rows_lines ps (rows_owed head c0 (left0 ++ r))) ≡ lines_text (due_lines ps taken (length taken)) ++ lines_text (end bank.count ∷ []) =
+        ap lines_text (all-lines ps (rows_owed head c0 (left0 ++ r)) e) ∙ lines-append (due_lines ps taken (length taken)) (end bank.count ∷ []) in
+        subst (λ t. GainsFront t held0 held') (sym text) (front-after held0.held held.held held'.held (lines_text (due_lines ps taken (length taken))) (lines_text (end bank.count ∷ [])) (m.puts ps stands) put)) all-is
+
+-- a bank that begins stands for what is due before the first sample
+pub begun-due : (ps : List Plant) (b : Bank) → BankStands ps [] (replicate (length ps) true) b → StandsDue ps [] b
+unfolding lives_before
+begun-due ps b h = h
 
 -- before the first row nothing was put
 pub nothing-yet : (head : Columns) (bank : Bank) (c : Cutter) (left : List ℕ) (rest : Option (List ℕ)) (held : SinkState) → bank.count ≡ 0 → Monitored head bank bank c c left left rest rest held held []

@@ -1,33 +1,15 @@
 -- What the result of a run says of its files, and what it has put.
-use Rattle.std.specs.Prelude.{◌≡◌, ◌≢◌, ◌⊎◌, ℕ, List, length, Option, Some, None, IfSome, Result, Ok, Err}
-use Rattle.std.specs.Io.KnownBytes.{IsAtEnd}
+use Rattle.std.specs.Prelude.{◌≡◌, ◌≢◌, ◌⊎◌, ℕ, List, Option, Some, None, Result, Ok, Err}
 use Rattle.outside_io.specs.Causes.{Rose}
-use Rattle.outside_io.specs.Shelf.{SlotState, ShelfState}
+use Rattle.outside_io.specs.Shelf.{ShelfState}
 use Rattle.outside_io.specs.Sink.{SinkState, Gains, GainsFront}
 use Rattle.report_text.specs.Line.{Line, lines_text}
 use Rattle.monitor_run.specs.declared.done.Done.{Done}
 use Rattle.monitor_run.specs.declared.done.RunFault.{RunFault}
 use Rattle.monitor_run.specs.declared.done.RunFault.TheVariants.{Model, Telemetry, Read, Write, Memory}
-use Rattle.monitor_run.specs.Files.{Files, bad_model, bad_header, monitored, files_of, model_refusal, telemetry_refusal}
-use Rattle.monitor_run.specs.Whole.{IsAskedAtMost}
-
--- a claim on the bytes of a model file and a telemetry, where both are told
-abbrev pub OnBytes : Option (List ℕ) → Option (List ℕ) → (List ℕ → List ℕ → Type 0) → Type 0
-OnBytes model telemetry claim = IfSome model (λ m. IfSome telemetry (λ t. claim m t))
-
--- a claim on the bytes of the file of this name, where the shelf tells them
-abbrev pub OnFile : ShelfState → List ℕ → (List ℕ → Type 0) → Type 0
-OnFile shelf name claim = IfSome (shelf.file name) claim
-
--- a claim on what the model file and the telemetry of these names say, where the shelf tells them
-abbrev pub OnFiles : ShelfState → (model telemetry : List ℕ) → (Files → Type 0) → Type 0
-OnFiles shelf model telemetry claim = OnBytes (shelf.file model) (shelf.file telemetry) (λ m t. claim (files_of m t))
-
--- no file is refused, and the telemetry has so many samples
-abbrev pub RunsThrough : Files → ℕ → Type 0
-RunsThrough (bad_model fault) n = ⊥
-RunsThrough (bad_header fault) n = ⊥
-RunsThrough (monitored ms rows) n = (rows.refusal ≡ None) × (n ≡ length rows.samples)
+use Rattle.input_files.specs.Files.{Files, model_refusal, telemetry_refusal, RunsThrough}
+use Rattle.input_files.specs.Told.{ReadFailed}
+use Rattle.input_files.specs.Whole.{IsAskedAtMost}
 
 -- what a result says of the bytes of the model file
 abbrev pub SaysOfModel : Result Done RunFault → List ℕ → Type 0
@@ -81,19 +63,9 @@ pub record AsksInOrder (model telemetry : List ℕ) (result : Result Done RunFau
   pub asked_telemetry : IsAskedAtMost telemetry (shelf.slot 1)
   pub no_third : (shelf.slot 2).asked ≡ None
 
--- both files were read to their end
-pub record AreRead (shelf : ShelfState) : Type 0 where
-  pub model : IsAtEnd (shelf.slot 0).rest
-  pub telemetry : IsAtEnd (shelf.slot 1).rest
-
 -- a claim on the slot that could not be read
 abbrev pub IfRead : {A : Type 0} → Result A RunFault → (ℕ → Type 0) → Type 0
 IfRead result claim = (slot : ℕ) → result ≡ Err (Read slot) → claim slot
-
--- reading a slot failed: its count of faults rose, and it was asked for this name
-pub record ReadFailed (name : List ℕ) (before after : SlotState) : Type 0 where
-  pub rose : Rose before.faults after.faults
-  pub was_asked : after.asked ≡ Some name
 
 -- the reading of the model file failed, or that of the telemetry
 abbrev pub ReadsFailed : (model telemetry : List ℕ) → (before after : ShelfState) → ℕ → Type 0

@@ -1,5 +1,5 @@
 -- The rows of a telemetry, and what a run over them says and puts.
-use Rattle.std.specs.Prelude.{◌≡◌, List, ◌++◌, length, Some, None, is_none, Result, Ok, Err, IfErr, OnOk, OnErr, ◌≤◌}
+use Rattle.std.specs.Prelude.{◌≡◌, ℕ, List, ◌++◌, length, Some, None, is_none, Result, Ok, Err, IfErr, OnOk, OnErr, ◌≤◌}
 use Rattle.std.specs.Io.KnownBytes.{IsAtEnd}
 use Rattle.plant_model.specs.Plant.{Plant, Sample}
 use Rattle.telem_csv.specs.Rows.{Rows}
@@ -10,18 +10,30 @@ use Rattle.outside_io.specs.Sink.{SinkState, Gains, GainsFront}
 use Rattle.outside_io.specs.declared.sink.PutFault.{PutFault}
 use Rattle.outside_io.specs.declared.sink.PutFault.TheVariants as put
 use Rattle.report_text.specs.Line.{Line, lines_text}
-use Rattle.report_rules.specs.Lines.{samples_lines, last_lines}
+use Rattle.report_rules.specs.Lines.{last_lines}
+use Rattle.report_rules.specs.Report.{samples_lines, lives_before, due_choice}
+use Rattle.model_bank.specs.Bank.{Bank, BankStands}
 use Rattle.monitor_run.specs.declared.done.Done.{Done}
 use Rattle.monitor_run.specs.declared.done.RunFault.{RunFault}
 use Rattle.monitor_run.specs.declared.done.RunFault.TheVariants.{Model, Telemetry, Read, Write, Memory}
 use Rattle.monitor_run.specs.Outcome.{IfRead, HasWriteCause}
-use Rattle.monitor_run.specs.declared.stream.StreamFault.{StreamFault}
-use Rattle.monitor_run.specs.declared.stream.StreamFault.TheVariants as stream
+use Rattle.input_files.specs.declared.stream.StreamFault.{StreamFault}
+use Rattle.input_files.specs.declared.stream.StreamFault.TheVariants as stream
+use Rattle.input_files.specs.declared.model.ModelEnding.{ModelEnding}
+use Rattle.input_files.specs.declared.model.ModelEnding.TheVariants as models
+
+-- the lines of the first samples, with the certificates that are due
+abbrev pub due_lines : List Plant → List Sample → ℕ → List Line
+due_lines ps samples n = samples_lines zonotope_observer ps samples (due_choice zonotope_observer ps samples) n
 
 -- the lines of a report behind its head
 abbrev pub rows_lines : List Plant → Rows → List Line
-rows_lines ps rows = samples_lines zonotope_observer ps rows.samples (length rows.samples)
-    ++ last_lines (length rows.samples) (is_none rows.refusal)
+rows_lines ps rows = due_lines ps rows.samples (length rows.samples) ++ last_lines (length rows.samples) (is_none rows.refusal)
+
+-- a bank of these plants stands for the samples, and for the models for which nothing was due
+abbrev pub StandsDue : List Plant → List Sample → Bank → Type 0
+StandsDue ps samples bank =
+    BankStands ps samples (lives_before (due_choice zonotope_observer ps samples) (length ps) (length samples)) bank
 
 -- the samples taken, and then those of the rows to come
 abbrev pub behind : List Sample → Rows → Rows
@@ -72,6 +84,12 @@ abbrev pub ending_of : StreamFault → RunFault
 ending_of (stream.Refused fault) = Telemetry fault
 ending_of stream.Read = Read 1
 ending_of stream.Memory = Memory
+
+-- how a run ends where the model file gave no models
+abbrev pub model_ending : ModelEnding → RunFault
+model_ending (models.Refused fault) = Model fault
+model_ending models.Read = Read 0
+model_ending models.Memory = Memory
 
 -- how a run ends where the output took no more
 abbrev pub put_ending : PutFault → RunFault

@@ -1,7 +1,7 @@
 //! How a run ends.
 ghost use Rattle.std.specs.Prelude.{◌≡◌};
 
-use crate::stream::StreamFault;
+use input_files::{ModelEnding, StreamFault};
 use model_file::ModelFault;
 use outside_io::PutFault;
 use telem_csv::TelemFault;
@@ -32,6 +32,20 @@ pub enum RunFault {
     /// Memory ran out.
     #[error("out of memory")]
     Memory,
+}
+
+impl From<ModelEnding> for RunFault {
+    ghost use Rattle.monitor_run.specs.Rows.{model_ending};
+
+    ghost from_gives = { λ fault ending. ending ≡ model_ending fault };
+
+    fn from(fault: ModelEnding) -> RunFault {
+        match fault {
+            ModelEnding::Refused(fault) => RunFault::Model(fault),
+            ModelEnding::Read => RunFault::Read { slot: 0 },
+            ModelEnding::Memory => RunFault::Memory,
+        }
+    }
 }
 
 impl From<StreamFault> for RunFault {

@@ -3,11 +3,7 @@
 
 mod done;
 mod lines;
-mod model;
 mod reporting;
-mod rows;
-mod stream;
-mod whole;
 
 pub use done::{Done, RunFault};
-pub use reporting::{MOST_TELEMETRY, monitor};
+pub use reporting::monitor;

@@ -6,27 +6,24 @@ ghost use Rattle.report_text.specs.Line.{end};
 ghost use Rattle.telem_csv.specs.Cutter.{current};
 ghost use Rattle.telem_csv.specs.Columns.{AreFor};
 ghost use Rattle.telem_csv.specs.Fed.{is_refusal};
-ghost use Rattle.model_bank.specs.Bank.{BankStands};
-ghost use Rattle.monitor_run.specs.Stream.{OnRows, ReadsOn};
-ghost use Rattle.monitor_run.specs.Files.{files_with, report_of, report_of_rows};
-ghost use Rattle.monitor_run.specs.Outcome.{OnFile, OnFiles, SaysOfModel, SaysOfFiles, PutsReport, PutsNothing};
-ghost use Rattle.monitor_run.specs.Outcome.{AreRead, AsksInOrder, IfRead, ReadsFailed, HasWriteCause};
-ghost use Rattle.monitor_run.specs.Rows.{rows_lines, SaysOfRows, EndsRun, PutsLast};
-ghost use Rattle.monitor_run.specs.Whole.{IsAskedAtMost};
+ghost use Rattle.input_files.specs.Stream.{OnRows, ReadsOn};
+ghost use Rattle.input_files.specs.Files.{files_with};
+ghost use Rattle.input_files.specs.Told.{OnFile, OnFiles, AreRead};
+ghost use Rattle.input_files.specs.Whole.{IsAskedAtMost};
+ghost use Rattle.monitor_run.specs.Reports.{report_of, report_of_rows};
+ghost use Rattle.monitor_run.specs.Outcome.{SaysOfModel, SaysOfFiles, PutsReport, PutsNothing};
+ghost use Rattle.monitor_run.specs.Outcome.{AsksInOrder, IfRead, ReadsFailed, HasWriteCause};
+ghost use Rattle.monitor_run.specs.Rows.{rows_lines, StandsDue, SaysOfRows, EndsRun, PutsLast};
 
 use crate::done::{Done, RunFault};
 use crate::lines::{put_end, put_head, put_sample};
-use crate::model::read_model;
-use crate::rows::{SLOT, find_header, next_row};
-use crate::stream::{Stream, StreamFault};
+use input_files::{MOST_TELEMETRY, TELEMETRY_SLOT, find_header, next_row, read_model};
+use input_files::{Stream, StreamFault};
 use model_bank::{Bank, SampleRec};
 use model_file::Bank0;
 use outside_io::{Shelf, Sink};
 use std::alloc::Global;
 use telem_csv::Header;
-
-/// The longest telemetry, in bytes.
-pub const MOST_TELEMETRY: u64 = 16_777_216;
 
 /// Puts the report of a model file and a telemetry to `out`, each line as soon as its row is read. Slot 0 of the shelf reads the
 /// model file, slot 1 the telemetry.
@@ -69,7 +66,7 @@ fn monitor_models<F: Shelf, O: Sink>(
     ensures asked_unread { IfRead result (λ _. ((F.state shelf.new).slot 1).asked ≡ Some telemetry.now) }
     ensures others { KeepsOthers 1 (F.state shelf.old) (F.state shelf.new) }
 {
-    match shelf.attach(SLOT, telemetry) {
+    match shelf.attach(TELEMETRY_SLOT, telemetry) {
         Ok(()) => {}
         Err(fault) => return Err(StreamFault::from(fault).into()),
     }
@@ -120,7 +117,7 @@ fn put_rows<F: Shelf, O: Sink>(
     requires begins { bank.old.count ≡ 0 }
     requires short { (current stream.old.cutter).room < 2 ^ 63 }
     ensures says { OnRows 1 head.now stream.old (F.state shelf.old) (SaysOfRows result) }
-    ensures puts { (ps : List Plant) → BankStands ps [] bank.old → OnRows 1 head.now stream.old (F.state shelf.old)
+    ensures puts { (ps : List Plant) → StandsDue ps [] bank.old → OnRows 1 head.now stream.old (F.state shelf.old)
         (λ rows. PutsReport (rows_lines ps rows) (O.state out.old) result (O.state out.new)) }
     ensures ends { EndsRun (F.state shelf.old) (F.state shelf.new) (O.state out.old) result (O.state out.new) }
     ensures kept { ReadsOn 1 (F.state shelf.old) (F.state shelf.new) }

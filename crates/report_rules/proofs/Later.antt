@@ -130,3 +130,31 @@ pub due-lives-same : (ps : List Plant) (samples more : List Sample) (n : ℕ) �
     → lives_before (due_choice zonotope_observer ps (samples ++ more)) (length ps) n ≡ lives_before (due_choice zonotope_observer ps samples) (length ps) n
 due-lives-same ps samples more n h =
     lives-alike (due_choice zonotope_observer ps (samples ++ more)) (due_choice zonotope_observer ps samples) (length ps) n (λ k l. certificates-same samples more ps k (omega arith))
+
+-- ---- one sample more, with what is due
+
+module _ (ps : List Plant) (taken : List Sample) (s : Sample) where
+  abbrev longer : List Sample
+  longer = taken ++ s ∷ []
+
+  abbrev dues : List Sample → Choice
+  dues samples = due_choice zonotope_observer ps samples
+
+  one-more : length taken + 1 ≡ suc (length taken)
+  one-more = omega arith
+
+  pub due-lines-more : samples_lines zonotope_observer ps longer (dues longer) (length taken + 1)
+      ≡ samples_lines zonotope_observer ps taken (dues taken) (length taken)
+      ++ sample_lines (sample_answer zonotope_observer ps (lives_before (dues taken) (length ps) (length taken)) (dues longer (length taken)) longer (length taken))
+  unfolding samples_lines
+  due-lines-more =
+      let n = length taken in
+      ap (samples_lines zonotope_observer ps longer (dues longer)) one-more
+      ∙ ap (λ ls. ls ++ sample_lines (sample_answer zonotope_observer ps (lives_before (dues longer) (length ps) n) (dues longer n) longer n)) (due-lines-same ps taken (s ∷ []) n (omega arith))
+      ∙ ap (λ lives. samples_lines zonotope_observer ps taken (dues taken) n ++ sample_lines (sample_answer zonotope_observer ps lives (dues longer n) longer n)) (due-lives-same ps taken (s ∷ []) n (omega arith))
+
+  pub due-lives-more : lives_before (dues longer) (length ps) (length taken + 1) ≡ live_after (lives_before (dues taken) (length ps) (length taken)) (dues longer (length taken))
+  unfolding lives_before
+  due-lives-more =
+      ap (lives_before (dues longer) (length ps)) one-more
+      ∙ ap (λ lives. live_after lives (dues longer (length taken))) (due-lives-same ps taken (s ∷ []) (length taken) (omega arith))

@@ -1,4 +1,4 @@
-use Rattle.monitor_run.specs.Files.{report_of}
+use Rattle.monitor_run.specs.Reports.{report_of}
 use Rattle.monitor_run.specs.Outcome.{SaysOfFiles, PutsReport}
 use Rattle.monitor_run.proofs.Opened.{with-models, accepted-says}
 use Rattle.monitor_run.proofs.reporting.monitor.Goals as goal

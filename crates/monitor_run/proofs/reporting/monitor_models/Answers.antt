@@ -1,8 +1,9 @@
 use Rattle.std.proofs.Common.{◌++◌, ◌≤◌, arith}
 use Rattle.std.proofs.lemmas.Result.{err_from_is_err_and}
 use Rattle.telem_csv.specs.Cutter.{current, rows_owed}
-use Rattle.monitor_run.specs.Left.{left_of}
-use Rattle.monitor_run.specs.Files.{report_of, most_telemetry}
+use Rattle.input_files.specs.Left.{left_of}
+use Rattle.input_files.specs.Files.{most_telemetry}
+use Rattle.monitor_run.specs.Reports.{report_of}
 use Rattle.monitor_run.specs.Outcome.{SaysOfFiles, PutsReport}
 use Rattle.monitor_run.proofs.Opened.{if-some, with-rows, no-header-says, no-header-puts, rows-say}
 use Rattle.monitor_run.proofs.reporting.monitor_models.Goals as goal

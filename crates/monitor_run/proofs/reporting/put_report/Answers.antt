@@ -5,9 +5,9 @@ use Rattle.telem_csv.specs.Cutter.{rows_owed}
 use Rattle.report_text.specs.Line.{lines_text}
 use Rattle.report_rules.specs.Lines.{head_lines}
 use Rattle.model_bank.specs.Bank.{names_in, plants_in}
-use Rattle.monitor_run.specs.Files.{report_of_rows}
-use Rattle.monitor_run.specs.Left.{left_of}
-use Rattle.monitor_run.proofs.Turns.{put-cut}
+use Rattle.monitor_run.specs.Reports.{report_of_rows}
+use Rattle.input_files.specs.Left.{left_of}
+use Rattle.monitor_run.proofs.Turns.{put-cut, begun-due}
 use Rattle.monitor_run.proofs.Opened.{if-some, of-some, behind-head, head-front}
 use Rattle.monitor_run.proofs.reporting.put_report.Goals as goal
 
@@ -33,4 +33,4 @@ returns-in-Ok-clause-puts g c =
     if-some ((g.F.Shelf.state c.args.shelf.now).slot 1).rest _ _
     (λ r h. behind-head c.args.models (g.O.Sink.state c.args.out.now) (g.O.Sink.state c.put_head.new.out) (g.O.Sink.state c.put_rows.new.out) c.in_ok-put_head.ensures.whole c.put_rows.result
     (rows_owed c.args.head.now c.args.stream.now.cutter (left_of c.args.stream.now ++ r)) c.put_rows.ensures.ends.faults h)
-    (c.put_rows.ensures.puts (plants_in c.args.models) c.in-Ok.ensures.stands)
+    (c.put_rows.ensures.puts (plants_in c.args.models) (begun-due (plants_in c.args.models) _ c.in-Ok.ensures.stands))

@@ -4,7 +4,7 @@ use Rattle.outside_io.proofs.Fronts.{on-ok, on-err}
 use Rattle.plant_model.specs.Seen.{sample_of}
 use Rattle.telem_csv.specs.Cutter.{rows_owed}
 use Rattle.model_bank.specs.Seen.{sample_seen}
-use Rattle.monitor_run.specs.Left.{left_of}
+use Rattle.input_files.specs.Left.{left_of}
 use Rattle.monitor_run.specs.Rows.{rows_lines}
 use Rattle.monitor_run.proofs.Turns.{nothing-yet, one-more, front-more, so-far, refused-says, refused-puts, all-says, all-puts, all-front, put-cut, telemetry-says, telemetry-puts, last-says, last-puts}
 use Rattle.monitor_run.proofs.reporting.put_rows.Goals as goal

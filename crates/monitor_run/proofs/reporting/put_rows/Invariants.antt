@@ -2,8 +2,8 @@ use Rattle.std.proofs.Common.{◌≡◌, ◌+◌, ◌≤◌, List, length, false
 use Rattle.plant_model.specs.Plant.{Sample}
 use Rattle.telem_csv.specs.Cutter.{current}
 use Rattle.telem_csv.specs.Fed.{is_refusal}
-use Rattle.monitor_run.specs.Left.{left_of}
-use Rattle.monitor_run.specs.Stream.{ReadsOn}
+use Rattle.input_files.specs.Left.{left_of}
+use Rattle.input_files.specs.Stream.{ReadsOn}
 use Rattle.monitor_run.proofs.Turns.{Monitored}
 use Rattle.monitor_run.proofs.reporting.put_rows.Given as goal
 
