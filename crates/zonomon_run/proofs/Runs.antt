@@ -8,16 +8,21 @@ use Rattle.model_file.specs.Bank.{Models}
 use Rattle.model_file.specs.ModelFile.{models_of}
 use Rattle.model_file.specs.declared.fault.ModelFault.{ModelFault}
 use Rattle.model_bank.specs.Bank.{plants_in, names_in}
-use Rattle.observer_step.specs.Answers.{zonotope_observer}
+use Rattle.observer_step.specs.Answers.{zonotope_observer, any_justified}
 use Rattle.telem_csv.specs.declared.fault.TelemFault.{TelemFault}
 use Rattle.report_text.specs.Line.{Line, lines_text}
-use Rattle.report_rules.proofs.Hulls.{hulls-hold_whole, exclusions-hold_whole, zonotope-sound}
-use Rattle.report_rules.proofs.Misses.{misses-told_whole}
+use Rattle.report_rules.proofs.Hulls.{hulls-sound, exclusions-sound, zonotope-sound}
+use Rattle.report_rules.proofs.Misses.{misses-told}
+use Rattle.report_rules.proofs.Chosen.{run-accepted, due-chosen, zonotope-refutes}
+use Rattle.report_rules.specs.Report.{IsReport}
 use Rattle.monitor_run.specs.declared.done.Done.{Done}
 use Rattle.monitor_run.specs.declared.done.RunFault.{RunFault}
 use Rattle.monitor_run.specs.declared.done.RunFault.TheVariants as run
-use Rattle.monitor_run.specs.Files.{Files, bad_model, bad_header, monitored, files_of, with_models, refused, model_refusal, telemetry_refusal, report_of}
-use Rattle.monitor_run.specs.Outcome.{OnBytes, OnFile, OnFiles, SaysOfModel, SaysOfFiles, PutsReport, PutsNothing, AsksModelFirst, AsksInOrder, AreRead, ReadsFailed, RunsThrough}
+use Rattle.input_files.specs.Files.{Files, bad_model, bad_header, monitored, files_of, with_models, refused, model_refusal, telemetry_refusal, RunsThrough}
+use Rattle.input_files.specs.Told.{OnBytes, OnFile, OnFiles, AreRead}
+use Rattle.telem_csv.specs.Rows.{Rows}
+use Rattle.monitor_run.specs.Reports.{report_of, report_of_rows, watch_of}
+use Rattle.monitor_run.specs.Outcome.{SaysOfModel, SaysOfFiles, PutsReport, PutsNothing, AsksModelFirst, AsksInOrder, ReadsFailed}
 use Rattle.zonomon_run.specs.Words.{asked_by, monitor}
 use Rattle.zonomon_run.specs.Ending.{status_of, text_of, Tells}
 use Rattle.zonomon_run.specs.declared.ending.Ending.TheVariants.{ReadModel, ReadTelemetry}
@@ -280,17 +285,21 @@ module _ (model telemetry : List ℕ) (before after : Outside) where
 
 -- ---- what the lines claim
 
+-- what a run puts is accepted
+put-accepted : (ms : Models) (rows : Rows) → IsReport any_justified zonotope_observer (watch_of ms rows) (report_of_rows ms rows)
+put-accepted ms rows = run-accepted zonotope_observer (watch_of ms rows) (report_of_rows ms rows) zonotope-refutes (due-chosen (watch_of ms rows))
+
 pub true-hulls : (f : Files) → TrueHulls f
 true-hulls (bad_model fault) = tt
 true-hulls (bad_header fault) = tt
-true-hulls (monitored ms rows) = hulls-hold_whole zonotope_observer (names_in ms) (plants_in ms) rows.samples (is_none rows.refusal) (zonotope-sound rows.samples (length rows.samples))
+true-hulls (monitored ms rows) = hulls-sound zonotope_observer (watch_of ms rows) (report_of_rows ms rows) (zonotope-sound rows.samples (length rows.samples)) (put-accepted ms rows)
 
 pub true-exclusions : (f : Files) → TrueExclusions f
 true-exclusions (bad_model fault) = tt
 true-exclusions (bad_header fault) = tt
-true-exclusions (monitored ms rows) = exclusions-hold_whole zonotope_observer (names_in ms) (plants_in ms) rows.samples (is_none rows.refusal) (zonotope-sound rows.samples (length rows.samples))
+true-exclusions (monitored ms rows) = exclusions-sound zonotope_observer (watch_of ms rows) (report_of_rows ms rows) (zonotope-sound rows.samples (length rows.samples)) (put-accepted ms rows)
 
 pub true-misses : (f : Files) → TrueMisses f
 true-misses (bad_model fault) = tt
 true-misses (bad_header fault) = tt
-true-misses (monitored ms rows) = misses-told_whole zonotope_observer (names_in ms) (plants_in ms) rows.samples (is_none rows.refusal)
+true-misses (monitored ms rows) = misses-told zonotope_observer (watch_of ms rows) (report_of_rows ms rows) (put-accepted ms rows)

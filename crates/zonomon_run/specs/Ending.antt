@@ -6,7 +6,7 @@ use Rattle.model_file.specs.declared.fault.ModelFault.{ModelFault}
 use Rattle.telem_csv.specs.declared.fault.TelemFault.{TelemFault}
 use Rattle.refusal_text.specs.Model.{model_refusal}
 use Rattle.refusal_text.specs.Telemetry.{telemetry_refusal}
-use Rattle.monitor_run.specs.Files.{most_telemetry}
+use Rattle.input_files.specs.Files.{most_telemetry}
 use Rattle.zonomon_run.specs.declared.ending.Ending.{Ending}
 use Rattle.zonomon_run.specs.declared.ending.Ending.TheVariants.{Usage, Model, Telemetry, ReadModel, ReadTelemetry, Write, Memory, NotBuilt}
 

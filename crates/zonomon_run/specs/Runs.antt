@@ -8,9 +8,10 @@ use Rattle.telem_csv.specs.declared.fault.TelemFault.{TelemFault}
 use Rattle.model_bank.specs.Bank.{plants_in}
 use Rattle.report_text.specs.Line.{lines_text}
 use Rattle.report_rules.specs.Claims.{HullsHold, ExclusionsHold, MissesTold, plant_at}
-use Rattle.monitor_run.specs.Files.{Files, bad_model, bad_header, monitored, model_refusal, telemetry_refusal, report_of, report_of_rows}
-use Rattle.monitor_run.specs.Outcome.{OnFile, OnFiles, AreRead, ReadFailed}
-use Rattle.monitor_run.specs.Whole.{IsAskedAtMost}
+use Rattle.input_files.specs.Files.{Files, bad_model, bad_header, monitored, model_refusal, telemetry_refusal}
+use Rattle.input_files.specs.Told.{OnFile, OnFiles, AreRead, ReadFailed}
+use Rattle.input_files.specs.Whole.{IsAskedAtMost}
+use Rattle.monitor_run.specs.Reports.{report_of, report_of_rows}
 use Rattle.zonomon_run.specs.Words.{asked_by, monitor, helps, later, faulty}
 use Rattle.zonomon_run.specs.Ending.{Tells, text_of, usage_lines, model_refusal_text, telemetry_refusal_text}
 use Rattle.zonomon_run.specs.declared.ending.Ending.TheVariants.{ReadModel, ReadTelemetry}

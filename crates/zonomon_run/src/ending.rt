@@ -4,8 +4,9 @@ ghost use Rattle.outside_io.specs.Sink.{PutsAll};
 ghost use Rattle.zonomon_run.specs.Endings.{ending_of};
 ghost use Rattle.zonomon_run.specs.Ending.{status_of, text_of, usage_lines, model_refusal_text, telemetry_refusal_text, Tells};
 
+use input_files::MOST_TELEMETRY;
 use model_file::ModelFault;
-use monitor_run::{MOST_TELEMETRY, RunFault};
+use monitor_run::RunFault;
 use outside_io::{PutFault, Sink, put_all};
 use refusal_text::{model_refusal, telemetry_refusal};
 use telem_csv::TelemFault;
