@@ -3,15 +3,18 @@ use Rattle.std.proofs.Common.{Vec, ◌≡◌, ℕ, ◌+◌, ◌<◌, ◌≤◌, 
 use Rattle.std.specs.Borrow.{Bor}
 use Rattle.std.specs.Option.{option_to_list}
 use Rattle.std.specs.Vec.{with_items}
-use Rattle.std.proofs.lemmas.List.{drop_more, take_more, get_or_at, set_at, get_or-map, length-map, with_items_is, length-take-le}
+use Rattle.std.proofs.lemmas.List.{append-nil, map_push, length_push, drop_more, take_more, take-append-drop, get_or_at, set_at, get_or-map, length-map, with_items_is, length-take-le}
 use Rattle.farkas_check.specs.Certificate.{Certificate, certificate_of}
 use Rattle.farkas_check.specs.declared.certificate.Cert.{Cert}
 use Rattle.plant_model.specs.Plant.{Sample}
 use Rattle.model_bank.specs.Answers.{ModelAnswer, answer_if}
 use Rattle.model_bank.specs.Bank.{Member}
-use Rattle.model_bank.specs.Steps.{due_of, answer_of, told_of, justified_of, answers_of, member_after, members_after, all_justified}
-use Rattle.model_bank.specs.Claims.{claimed_of}
-use Rattle.model_bank.specs.Offers.{claim_at, claims_of}
+use Rattle.observer_step.specs.Predicted.{predicted_outs, due}
+use Rattle.observer_step.specs.declared.outcome.Unjustified.{Unjustified}
+use Rattle.model_bank.specs.Steps.{ahead_of, due_of, answer_of, told_of, justified_of, answers_of, member_after, members_after, all_justified}
+use Rattle.model_bank.specs.Claims.{claimed_of, MemberTakes, MemberRefuses}
+use Rattle.model_bank.specs.Offers.{claim_at, claims_of, RefusesMember}
+use Rattle.model_bank.specs.declared.claim.Claim.{Claim}
 use Rattle.model_bank.proofs.BankStep.{members-many}
 
 -- a list with these items in the place of its first
@@ -100,6 +103,64 @@ module _ (is_first : Bool) (u : List ℤ) (s : Sample) where
       → get_or (claims_of is_first u s ms offered) i None ≡ claimed_of is_first u s (get_or ms i d) (claim_at offered i)
   claim-here ms None many i d below = get_or-map (due_of is_first u s) ms i d None below
   claim-here ms (Some offers) many i d below = get_or-map (option_map certificate_of) offers.now i None None (omega arith)
+
+-- what was told of one more
+pub told-more : {A B : Type 0} (f : A → B) (xs : List A) (o : Option A) → map f (xs ++ option_to_list o) ≡ map f xs ++ option_to_list (option_map f o)
+told-more f xs None = ap (map f) (append-nil xs) ∙ sym (append-nil (map f xs))
+told-more f xs (Some x) = map_push f xs x
+
+pub told-few : {A : Type 0} (xs : List A) (o : Option A) → length (xs ++ option_to_list o) ≤ length xs + 1
+told-few xs None = omega (arith, ap length (append-nil xs))
+told-few xs (Some x) = omega (arith, length_push xs x)
+
+-- member i of a bank, of which the members before were taken
+module _ (is_first : Bool) (u : List ℤ) (s : Sample) (old : List Member) (offered : Option (Bor (List (Option Cert)))) (many : IfSome offered (λ offers. length offers.now ≡ length old))
+    (i : ℕ) (below : i < length old) (d m : Member) (here : m ≡ get_or old i d) (claim : Claim) (claim_is : claim ≡ claim_at offered i) where
+  abbrev pub cs : List (Option Certificate)
+  cs = claims_of is_first u s old offered
+
+  long : length cs ≡ length old
+  long = claims-long is_first u s old offered many
+
+  claimed-here : claimed_of is_first u s m claim ≡ get_or cs i None
+  claimed-here = (λ j. claimed_of is_first u s (here j) (claim_is j)) ∙ sym (claim-here is_first u s old offered many i d below)
+
+  module _ (new : Member) (told : Option ModelAnswer) (takes : MemberTakes is_first u s i m new claim told) where
+    pub taken-justified : all_justified is_first u s (take i old) (take i cs) ≡ true → all_justified is_first u s (take (i + 1) old) (take (i + 1) cs) ≡ true
+    taken-justified all =
+        justified-more is_first u s old cs long i below d None all (sym (λ j. not (here j).live || justified_of is_first u s (here j) (claimed-here j)) ∙ takes.justified)
+
+    pub taken-told : (xs : List ModelAnswer) → xs ≡ answers_of is_first u s 0 (take i old) (take i cs) → xs ++ option_to_list told ≡ answers_of is_first u s 0 (take (i + 1) old) (take (i + 1) cs)
+    taken-told xs so_far =
+        (λ j. so_far j ++ option_to_list ((takes.told_is ∙ (λ k. told_of is_first u s i (here k) (claimed-here k))) j)) ∙ sym (answers-more is_first u s old cs long i below d None)
+
+    pub taken-new : (now : List Member) → now ≡ members_after is_first u s (take i old) (take i cs) ++ drop i old → set now i new ≡ members_after is_first u s (take (i + 1) old) (take (i + 1) cs) ++ drop (i + 1) old
+    taken-new now so_far =
+        let front = members_after is_first u s (take i old) (take i cs) in
+        one-more front old i below (members-long is_first u s old cs long i below d None) now so_far d new
+        ∙ ap (λ x. (front ++ x ∷ []) ++ drop (i + 1) old) (takes.new_is ∙ (λ j. member_after is_first u s (here j) (claimed-here j)))
+        ∙ ap (λ xs. xs ++ drop (i + 1) old) (sym (members-more is_first u s old cs long i below d None))
+
+  pub refused-here : (e : Unjustified) (before : List ModelAnswer) → MemberRefuses is_first u s m claim e → before ≡ answers_of is_first u s 0 (take i old) (take i cs) → all_justified is_first u s (take i old) (take i cs) ≡ true
+      → RefusesMember is_first u s old cs (record { model = i; before = before; predicted = e.outs.items; due = e.why.due; offered = option_map certificate_of e.why.offered })
+  refused-here e before refuses so_far all =
+      let offer : get_or cs i None ≡ option_map certificate_of e.why.offered = sym claimed-here ∙ ap (claimed_of is_first u s m) refuses.refuses.claim_is in
+      record {
+        below = take i old;
+        claims_below = take i cs;
+        member = get_or old i d;
+        above = drop (i + 1) old;
+        claims_above = drop (i + 1) cs;
+        members_are = sym (take-append-drop i old) ∙ ap (λ xs. take i old ++ xs) (drop_more old i d below);
+        claims_are = sym (take-append-drop i cs) ∙ ap (λ xs. take i cs ++ xs) (drop_more cs i None (omega (arith, long))) ∙ ap (λ c. take i cs ++ c ∷ drop (i + 1) cs) offer;
+        model_is = sym (length-take-le i old (omega arith));
+        live = sym (ap (λ (m : Member). m.live) here) ∙ refuses.live;
+        justified_below = all;
+        not_justified = sym (ap (λ (m : Member). justified_of is_first u s m (option_map certificate_of e.why.offered)) here) ∙ refuses.refuses.not_justified;
+        due_is = refuses.refuses.due_is ∙ ap (λ (m : Member). due m.plant s (ahead_of is_first u m)) here;
+        before_are = so_far;
+        predicted_are = refuses.refuses.outs_are ∙ ap (λ (m : Member). predicted_outs m.plant s.inputs (ahead_of is_first u m)) here;
+      }
 
 -- the items of a Vec once a list is written back
 pub items-are : {A Z : Type 0} (v : Vec A Z) (new : List A) → length v.items ≡ v.len → length new ≡ length v.items → (with_items v new).items ≡ new

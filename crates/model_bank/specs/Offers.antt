@@ -57,5 +57,5 @@ pub record BankTakes (s : Sample) (offered : Option (Bor (List (Option Cert)))) 
   pub new_is : new ≡ bank_after s old (claims_on s old offered)
 
 -- a model of the bank refuses what is claimed
-abbrev pub BankRefuses : Sample → Option (Bor (List (Option Cert))) → Bank → Refusal → Type 0
-BankRefuses s offered b refusal = RefusesMember (b.count == 0) b.last_inputs s b.members (claims_on s b offered) refusal
+pub record BankRefuses (s : Sample) (offered : Option (Bor (List (Option Cert)))) (b : Bank) (refusal : Refusal) : Type 0 where
+  pub refuses : RefusesMember (b.count == 0) b.last_inputs s b.members (claims_on s b offered) refusal

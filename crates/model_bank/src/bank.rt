@@ -1,6 +1,6 @@
 //! All models of a file over one telemetry.
 
-ghost use Rattle.std.specs.Prelude.{◌≡◌, ◌+◌, ◌<◌, ◌≤◌, ◌^◌, true, false, [], length, map, replicate, IfOk, IfErr, OnOk, IsOk, IfSome, None};
+ghost use Rattle.std.specs.Prelude.{◌≡◌, ◌+◌, ◌<◌, ◌≤◌, ◌^◌, true, false, [], ◌++◌, length, map, replicate, IfOk, IfErr, OnOk, IsOk, IfSome, None, option_to_list};
 ghost use Rattle.std.specs.List.{All};
 ghost use Rattle.set_rules.specs.Limits.{input_limit};
 ghost use Rattle.plant_model.specs.Plant.{AllWithinLimit};
@@ -259,8 +259,7 @@ fn take_all(
         let member = &mut members[i];
         let claim = claim_on(offered, i);
         match member.take(i as u32, is_first, last, sample, room, claim) {
-            Ok(Some(model)) => models.push(model),
-            Ok(None) => {}
+            Ok(told) => add(models, told),
             Err(Unjustified { outs, why }) => {
                 return Err(Refused {
                     model: i as u32,
@@ -271,6 +270,17 @@ fn take_all(
         }
     }
     Ok(())
+}
+
+/// Puts what is told of a model, if anything, behind what is told of the others.
+#[inline]
+fn add(models: &mut ArrayVec<ModelRec, 16>, told: Option<ModelRec>)
+    requires { length models.old.items < 16 }
+    ensures { models.new.items ≡ models.old.items ++ option_to_list told }
+{
+    if let Some(model) = told {
+        models.push(model);
+    }
 }
 
 /// Tells whether each member is live.

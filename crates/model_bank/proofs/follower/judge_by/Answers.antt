@@ -1,10 +1,11 @@
-use Rattle.std.proofs.Common.{IfOk, IfErr, sym, subst}
+use Rattle.std.proofs.Common.{IfOk, IfErr, sym, ap, ◌∙◌, subst}
 use Rattle.plant_model.specs.Seen.{sample_of}
 use Rattle.observer_step.specs.Estimate.{Estimate}
 use Rattle.observer_step.specs.Seen.{certificate_in}
 use Rattle.observer_step.proofs.Offered.{due-justified}
 use Rattle.observer_step.specs.Answers.{refutes_none}
 use Rattle.observer_step.specs.Predicted.{due}
+use Rattle.model_bank.specs.Steps.{set_on}
 use Rattle.model_bank.specs.Claims.{SetTakes, SetRefuses}
 use Rattle.model_bank.specs.declared.claim.Claim.TheVariants.{Due}
 use Rattle.model_bank.proofs.Judged.{set-due, offer-taken, offer-refused}
@@ -20,7 +21,8 @@ returns-in-Due-clause-taken g c =
       outs_are = judged.outs;
       certificate_is = judged.outcome;
       justified = due-justified (due p s z) refutes_none;
-      set_is = ?;
+      set_is = set-due p s z c.judge.new.self.plain (certificate_in c.judge.result.outcome) judged.fits (λ some. ap (λ (e : Estimate). e.plain) (judged.excluded some))
+          ∙ ap (set_on p s z) judged.outcome;
     } in
     subst (λ claim. SetTakes p s z c.judge.new.self.plain claim c.judge.result) (sym c.in-Due.is) takes
 
