@@ -1,19 +1,18 @@
 -- A bank before the first sample.
-use Rattle.std.proofs.Common.{◌≡◌, ℕ, ◌≤◌, ℤ, List, [], ◌∷◌, unsigned_abs, length, map, get_or, true, refl, sym, ap, ◌∙◌, arith, subst}
+use Rattle.std.proofs.Common.{◌≡◌, ℕ, ◌≤◌, ℤ, List, [], ◌∷◌, unsigned_abs, length, map, replicate, get_or, true, refl, sym, ap, ◌∙◌, arith, subst}
 use Rattle.std.proofs.lemmas.List.{length-map}
 use Rattle.std.proofs.lemmas.List.Elements.{All-nil, All-map, All-same}
 use Rattle.set_rules.specs.Limits.{input_limit}
 use Rattle.plant_model.specs.Plant.{Plant, AllWithinLimit}
-use Rattle.observer_step.specs.Answers.{zonotope_observer, is_live}
 use Rattle.model_file.specs.Bank.{Models, Named, IsModels}
 use Rattle.model_bank.specs.Bank.{Member, Bank, HasPlantOf, IsBank, begun, MemberStands, BankStands, plants_in}
 
-live-at_first : (p : Plant) → true ≡ is_live zonotope_observer p [] 0
-unfolding is_live
-live-at_first p = refl
-
 begun-stands : (p : Plant) → MemberStands [] (begun p)
-begun-stands p = record { live = live-at_first p; set = λ _. refl }
+begun-stands p live = refl
+
+begun-lives : (ns : List Named) → map (λ (m : Member). m.live) (map (λ (n : Named). begun n.plant) ns) ≡ replicate (length (map (λ (n : Named). n.plant) ns)) true
+begun-lives [] = refl
+begun-lives (n ∷ ns) = ap (λ bs. true ∷ bs) (begun-lives ns)
 
 begun-plants : (ns : List Named) → map (λ (m : Member). m.plant) (map (λ (n : Named). begun n.plant) ns) ≡ map (λ (n : Named). n.plant) ns
 begun-plants [] = refl
@@ -25,7 +24,7 @@ module _ (models : Models) (limits : IsModels models) (inputs outputs : ℕ) (me
   abbrev bank : Bank
   bank = record { inputs = inputs; outputs = outputs; members = members; count = 0; last_inputs = last }
 
-  long : length members ≡ length models.models
+  pub long : length members ≡ length models.models
   long = ap length members-are ∙ length-map models.models (λ (n : Named). begun n.plant)
 
   pub limits-begun : IsBank bank
@@ -41,9 +40,10 @@ module _ (models : Models) (limits : IsModels models) (inputs outputs : ℕ) (me
     last_inputs = λ some. absurd (omega arith);
   }
 
-  pub stands-begun : BankStands (plants_in models) [] bank
+  pub stands-begun : BankStands (plants_in models) [] (replicate (length (plants_in models)) true) bank
   stands-begun = record {
     plants_are = ap (map (λ (m : Member). m.plant)) members-are ∙ begun-plants models.models;
+    lives_are = ap (map (λ (m : Member). m.live)) members-are ∙ begun-lives models.models;
     count_is = refl;
     inputs_are = none;
     members_stand = All-same (MemberStands []) members (map (λ (n : Named). begun n.plant) models.models) members-are

@@ -3,3 +3,4 @@ pub mod BankStep
 pub mod Judged
 pub mod Taking
 pub mod BankBegun
+pub mod Offered

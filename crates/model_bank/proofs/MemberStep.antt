@@ -1,14 +1,15 @@
 -- What a sample makes of a member that stands for the samples before is what the definitions say of all samples.
-use Rattle.std.proofs.Common.{◌≡◌, ℕ, zero, suc, ◌-◌, ◌<◌, ◌≤◌, ℤ, List, [], ◌∷◌, ◌++◌, length, is_none, if◌then◌else◌, Bool, true, false, ◌&&◌, refl, sym, ap, ◌∙◌, arith, eqb}
+use Rattle.std.proofs.Common.{◌≡◌, ℕ, zero, suc, ◌-◌, ◌<◌, ◌≤◌, ℤ, List, [], ◌∷◌, ◌++◌, length, Option, option_map, if◌then◌else◌, Bool, true, false, refl, sym, ap, ◌∙◌, arith, eqb}
 use Rattle.std.proofs.lemmas.List.{get_or_append_left, get_or_at, length_push}
 use Rattle.std.proofs.lemmas.Bool.Decides.{nat_tests}
 use Rattle.plant_model.specs.Plant.{Plant, Sample, no_sample, sample_at}
-use Rattle.observer_step.specs.Predicted.{first_set}
+use Rattle.farkas_check.specs.Certificate.{Certificate, by_out}
+use Rattle.observer_step.specs.Predicted.{first_set, predicted_outs, due}
 use Rattle.observer_step.specs.Estimate.{predict, correct, predicted_set, corrected_set, is_widened, leaves_range}
-use Rattle.observer_step.specs.Answers.{zonotope_observer, answer_at, certificate_at, is_live}
+use Rattle.observer_step.specs.Answers.{zonotope_observer, answer_with, certificate_at, due_at, is_justified, refutes_none, any_justified, allows_at}
 use Rattle.observer_step.proofs.ExclusionHolds.{later-nothing}
 use Rattle.model_bank.specs.Bank.{Member, set_after, MemberStands}
-use Rattle.model_bank.specs.Steps.{set_ahead, widens, certificate_on, answer_on, answer_of, set_on, judged_on, member_after}
+use Rattle.model_bank.specs.Steps.{set_ahead, widens, answer_on, answer_of, set_on, ahead_of, due_of, justified_of, judged_on, member_after}
 
 -- the sample after some samples, and those before
 sample-last : (samples : List Sample) (s : Sample) → sample_at (samples ++ s ∷ []) (length samples) ≡ s
@@ -19,23 +20,6 @@ sample-before samples s k l = get_or_append_left samples (s ∷ []) no_sample k 
 
 set-before : (p : Plant) (samples : List Sample) (s : Sample) (k : ℕ) → k ≤ length samples → predicted_set p (samples ++ s ∷ []) k ≡ predicted_set p samples k
 set-before p samples s k l = later-nothing p samples (s ∷ []) k l
-
--- later samples change no earlier certificate, and so not which models are live
-certificate-before : (p : Plant) (samples : List Sample) (s : Sample) (k : ℕ) → k < length samples → certificate_at zonotope_observer p (samples ++ s ∷ []) k ≡ certificate_at zonotope_observer p samples k
-certificate-before p samples s k l =
-    ap (λ t. certificate_on p t (predicted_set p (samples ++ s ∷ []) k)) (sample-before samples s k l)
-    ∙ ap (λ z. certificate_on p (sample_at samples k) z) (set-before p samples s k (omega arith))
-
-pub live-before : (p : Plant) (samples : List Sample) (s : Sample) (k : ℕ) → k ≤ length samples → is_live zonotope_observer p (samples ++ s ∷ []) k ≡ is_live zonotope_observer p samples k
-unfolding is_live
-live-before p samples s zero l = refl
-live-before p samples s (suc k) l =
-    ap (λ b. b && is_none (certificate_at zonotope_observer p (samples ++ s ∷ []) k)) (live-before p samples s k (omega arith))
-    ∙ ap (λ c. is_live zonotope_observer p samples k && is_none c) (certificate-before p samples s k (omega arith))
-
-live-suc : (p : Plant) (samples : List Sample) (k : ℕ) → is_live zonotope_observer p samples (suc k) ≡ is_live zonotope_observer p samples k && is_none (certificate_at zonotope_observer p samples k)
-unfolding is_live
-live-suc p samples k = refl
 
 predicted-suc : (p : Plant) (samples : List Sample) (k : ℕ) → predicted_set p samples (suc k) ≡ predict p (sample_at samples k).inputs (corrected_set p samples k)
 unfolding predicted_set
@@ -87,25 +71,32 @@ module _ (samples : List Sample) (s : Sample) (is_first : Bool) (u : List ℤ) (
   abbrev pub whole : List Sample
   whole = samples ++ s ∷ []
 
-  set-here : m.live ≡ true → set_ahead is_first u m.plant m.estimate.plain ≡ predicted_set m.plant whole n
-  set-here l = ap (λ b. set_ahead b u m.plant m.estimate.plain) knows.first_is ∙ set-ahead-is samples s u m n refl knows.inputs_are (stands.set l)
+  set-here : m.live ≡ true → ahead_of is_first u m ≡ predicted_set m.plant whole n
+  set-here l = ap (λ b. set_ahead b u m.plant m.estimate.plain) knows.first_is ∙ set-ahead-is samples s u m n refl knows.inputs_are (stands l)
 
   widens-here : m.live ≡ true → widens is_first u m.plant m.estimate.plain ≡ is_widened m.plant whole n
-  widens-here l = ap (λ b. widens b u m.plant m.estimate.plain) knows.first_is ∙ widens-is samples s u m n refl knows.inputs_are (stands.set l)
-
-  pub live-here : m.live ≡ is_live zonotope_observer m.plant whole n
-  live-here = stands.live ∙ sym (live-before m.plant samples s n (omega arith))
+  widens-here l = ap (λ b. widens b u m.plant m.estimate.plain) knows.first_is ∙ widens-is samples s u m n refl knows.inputs_are (stands l)
 
   -- the answer on a live member is what the definitions say
-  pub answer-here : m.live ≡ true → answer_of is_first u s m ≡ answer_at zonotope_observer m.plant whole n
+  pub answer-here : m.live ≡ true → (c : Option Certificate) → answer_of is_first u s m c ≡ answer_with zonotope_observer m.plant whole n c
   unfolding answer_on
-  answer-here l =
-      ap (λ z. answer_on m.plant s z (widens is_first u m.plant m.estimate.plain)) (set-here l)
-      ∙ ap (λ w. answer_on m.plant s (predicted_set m.plant whole n) w) (widens-here l)
-      ∙ sym (ap (λ t. answer_on m.plant t (predicted_set m.plant whole n) (is_widened m.plant whole n)) (sample-last samples s))
+  answer-here l c =
+      ap (λ z. answer_on m.plant s z (widens is_first u m.plant m.estimate.plain) c) (set-here l)
+      ∙ ap (λ w. answer_on m.plant s (predicted_set m.plant whole n) w c) (widens-here l)
+      ∙ sym (ap (λ t. answer_on m.plant t (predicted_set m.plant whole n) (is_widened m.plant whole n) c) (sample-last samples s))
 
-  certificate-here : certificate_at zonotope_observer m.plant whole n ≡ certificate_on m.plant s (predicted_set m.plant whole n)
-  certificate-here = ap (λ t. certificate_on m.plant t (predicted_set m.plant whole n)) (sample-last samples s)
+  pub predicted-here : m.live ≡ true → predicted_outs m.plant s.inputs (ahead_of is_first u m) ≡ predicted_outs m.plant (sample_at whole n).inputs (predicted_set m.plant whole n)
+  predicted-here l = λ i. predicted_outs m.plant ((sym (sample-last samples s)) i).inputs (set-here l i)
+
+  -- so is the output that is due, and what is justified
+  pub due-here : m.live ≡ true → due m.plant s (ahead_of is_first u m) ≡ due_at zonotope_observer m.plant whole n
+  due-here l = ap (due m.plant s) (set-here l) ∙ sym (ap (λ t. due m.plant t (predicted_set m.plant whole n)) (sample-last samples s))
+
+  pub certificate-here : m.live ≡ true → due_of is_first u s m ≡ certificate_at zonotope_observer m.plant whole n
+  certificate-here l = ap (option_map by_out) (due-here l)
+
+  pub justified-here : m.live ≡ true → (c : Option Certificate) → justified_of is_first u s m c ≡ allows_at any_justified zonotope_observer m.plant whole n c
+  justified-here l c = ap (λ d. is_justified d refutes_none c) (due-here l)
 
   corrected-here : corrected_set m.plant whole n ≡ correct m.plant s (predicted_set m.plant whole n)
   corrected-here = ap (λ t. correct m.plant t (predicted_set m.plant whole n)) (sample-last samples s)
@@ -114,23 +105,12 @@ module _ (samples : List Sample) (s : Sample) (is_first : Bool) (u : List ℤ) (
   longer = let e = length_push samples s in omega arith
 
   -- after the sample a member stands for that too
-  pub member-stands : MemberStands whole (member_after is_first u s m)
+  pub member-stands : (c : Option Certificate) → MemberStands whole (member_after is_first u s m c)
   unfolding set_on
-  member-stands = by m.live refl
+  member-stands c = by m.live refl
     where
-      by : (b : Bool) → m.live ≡ b → MemberStands whole (if b then judged_on m.plant s (set_ahead is_first u m.plant m.estimate.plain) else m)
-      by true l =
-          let z = predicted_set m.plant whole n in
-          let certificate : certificate_on m.plant s (set_ahead is_first u m.plant m.estimate.plain) ≡ certificate_at zonotope_observer m.plant whole n =
-          ap (λ z. certificate_on m.plant s z) (set-here l) ∙ sym certificate-here in
-          record {
-            live = ap is_none certificate
-                ∙ sym (ap (λ j. is_live zonotope_observer m.plant whole j) longer ∙ live-suc m.plant whole n ∙ ap (λ b. b && is_none (certificate_at zonotope_observer m.plant whole n)) (sym live-here ∙ l));
-            set = λ fits. ap (λ b. if b then correct m.plant s (set_ahead is_first u m.plant m.estimate.plain) else set_ahead is_first u m.plant m.estimate.plain) fits
-                ∙ ap (λ z. correct m.plant s z) (set-here l) ∙ sym corrected-here ∙ sym (ap (λ j. set_after m.plant whole j) longer);
-          }
-      by false l = record {
-        live = l
-            ∙ sym (ap (λ j. is_live zonotope_observer m.plant whole j) longer ∙ live-suc m.plant whole n ∙ ap (λ b. b && is_none (certificate_at zonotope_observer m.plant whole n)) (sym live-here ∙ l));
-        set = λ t. absurd cc;
-      }
+      by : (b : Bool) → m.live ≡ b → MemberStands whole (if b then judged_on m.plant s (ahead_of is_first u m) c else m)
+      by true l fits =
+          ap (λ b. if b then correct m.plant s (ahead_of is_first u m) else ahead_of is_first u m) fits
+          ∙ ap (correct m.plant s) (set-here l) ∙ sym corrected-here ∙ sym (ap (set_after m.plant whole) longer)
+      by false l live = absurd (let e = sym l ∙ live in cc)

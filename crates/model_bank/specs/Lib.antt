@@ -4,3 +4,5 @@ pub mod Bank
 pub mod Steps
 pub mod Members
 pub mod Stepping
+pub mod Claims
+pub mod Offers

@@ -56,3 +56,13 @@ pub record RefusesOffer (s : Sample) (offers : List (Option Certificate)) (plant
   pub due_is : refusal.due ≡ due_at zonotope_observer plant (samples ++ s ∷ []) (length samples)
   pub before_are : refusal.before ≡ answers_from zonotope_observer 0 plants_below lives_below offers_below (samples ++ s ∷ []) (length samples)
   pub predicted_are : refusal.predicted ≡ (answer_with zonotope_observer plant (samples ++ s ∷ []) (length samples) refusal.offered).predicted
+
+-- whatever the bank stands for, it takes the offers
+abbrev pub TakesAnyOffers : Sample → List (Option Certificate) → Bank → SampleAnswer → Bank → Type 0
+TakesAnyOffers s offers old seen new = (plants : List Plant) (samples : List Sample) (lives : List Bool) → BankStands plants samples lives old
+    → TakesOffers s offers plants samples lives seen new
+
+-- whatever the bank stands for, it refuses an offer
+abbrev pub RefusesAnOffer : Sample → List (Option Certificate) → Bank → Refusal → Type 0
+RefusesAnOffer s offers old refusal = (plants : List Plant) (samples : List Sample) (lives : List Bool) → BankStands plants samples lives old
+    → RefusesOffer s offers plants samples lives refusal

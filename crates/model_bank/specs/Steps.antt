@@ -1,14 +1,15 @@
--- What a sample makes of the members of a bank, from what they hold. `u` are the inputs
+-- What a sample makes of a bank and its members, from what they hold. `u` are the inputs
 -- of the sample before, of which the first sample has none.
-use Rattle.std.specs.Prelude.{ℕ, ◌+◌, ℤ, Bool, false, List, [], ◌∷◌, Option, Some, None, option_map, is_none, if◌then◌else◌}
+use Rattle.std.specs.Prelude.{ℕ, ◌+◌, ◌==◌, ℤ, Bool, true, false, not, ◌&&◌, ◌||◌, List, [], ◌∷◌, map, Option, Some, None, option_map, is_none, if◌then◌else◌}
 use Rattle.farkas_check.specs.Certificate.{Certificate, by_out}
 use Rattle.set_rules.specs.Zono.{Zono}
 use Rattle.plant_model.specs.Plant.{Plant, Sample}
 use Rattle.observer_step.specs.Predicted.{predicted_outs, hulls, due}
 use Rattle.observer_step.specs.Estimate.{leaves_range, predict, correct}
-use Rattle.observer_step.specs.Answers.{Answer}
-use Rattle.model_bank.specs.Answers.{ModelAnswer, answer_if}
-use Rattle.model_bank.specs.Bank.{Member}
+use Rattle.observer_step.specs.Answers.{Answer, is_justified, refutes_none}
+use Rattle.isolate_core.specs.Verdict.{verdict_of, possible_models}
+use Rattle.model_bank.specs.Answers.{ModelAnswer, answer_if, SampleAnswer}
+use Rattle.model_bank.specs.Bank.{Member, Bank}
 
 -- the predicted set: the given one at the first sample, and later that one sample on
 unfoldable pub set_ahead : Bool → List ℤ → Plant → Zono → Zono
@@ -21,6 +22,10 @@ widens is_first u p z = if is_first then false else leaves_range p u z
 -- the certificate that is due where z is the predicted set
 abbrev pub certificate_on : Plant → Sample → Zono → Option Certificate
 certificate_on p s z = option_map by_out (due p s z)
+
+-- the certificate, or none, is justified where z is the predicted set
+abbrev pub justified_on : Plant → Sample → Zono → Option Certificate → Bool
+justified_on p s z c = is_justified (due p s z) refutes_none c
 
 -- the answer where z is the predicted set, with this certificate or with none
 unfoldable pub answer_on : Plant → Sample → Zono → Bool → Option Certificate → Answer
@@ -42,6 +47,10 @@ ahead_of is_first u m = set_ahead is_first u m.plant m.estimate.plain
 -- the certificate that is due for a member
 abbrev pub due_of : Bool → List ℤ → Sample → Member → Option Certificate
 due_of is_first u s m = certificate_on m.plant s (ahead_of is_first u m)
+
+-- the certificate, or none, is justified for a member
+abbrev pub justified_of : Bool → List ℤ → Sample → Member → Option Certificate → Bool
+justified_of is_first u s m c = justified_on m.plant s (ahead_of is_first u m) c
 
 -- the answer on a live member
 abbrev pub answer_of : Bool → List ℤ → Sample → Member → Option Certificate → Answer
@@ -68,3 +77,26 @@ members_after is_first u s _ _ = []
 abbrev pub answers_of : Bool → List ℤ → Sample → ℕ → List Member → List (Option Certificate) → List ModelAnswer
 answers_of is_first u s i (m ∷ ms) (c ∷ cs) = answer_if m.live i (answer_of is_first u s m c) (answers_of is_first u s (i + 1) ms cs)
 answers_of is_first u s i _ _ = []
+
+-- what is said of each member that is live is justified, and something is said of each member
+abbrev pub all_justified : Bool → List ℤ → Sample → List Member → List (Option Certificate) → Bool
+all_justified is_first u s (m ∷ ms) (c ∷ cs) = (not m.live || justified_of is_first u s m c) && all_justified is_first u s ms cs
+all_justified is_first u s [] [] = true
+all_justified is_first u s _ _ = false
+
+-- what a bank says of the sample
+abbrev pub bank_answer : Sample → Bank → List (Option Certificate) → SampleAnswer
+bank_answer s b cs = record {
+  k = b.count;
+  models = answers_of (b.count == 0) b.last_inputs s 0 b.members cs;
+  possible = map (λ (m : Member). m.live) (members_after (b.count == 0) b.last_inputs s b.members cs);
+  verdict = verdict_of (possible_models (map (λ (m : Member). m.live) (members_after (b.count == 0) b.last_inputs s b.members cs)));
+}
+
+-- the bank after the sample
+abbrev pub bank_after : Sample → Bank → List (Option Certificate) → Bank
+bank_after s b cs = record b {
+  members = members_after (b.count == 0) b.last_inputs s b.members cs;
+  count = b.count + 1;
+  last_inputs = s.inputs;
+}

@@ -1,19 +1,19 @@
 //! All models of a file over one telemetry.
 
-ghost use Rattle.std.specs.Prelude.{◌≡◌, ℕ, ◌+◌, ◌<◌, ◌≤◌, ◌^◌, ◌==◌, false, List, [], ◌∷◌, ◌++◌, length, map, IfOk};
+ghost use Rattle.std.specs.Prelude.{◌≡◌, ◌+◌, ◌<◌, ◌≤◌, ◌^◌, true, false, [], ◌++◌, length, map, replicate, IfOk, IfErr, OnOk, IsOk, IfSome, None, option_to_list};
 ghost use Rattle.std.specs.List.{All};
 ghost use Rattle.set_rules.specs.Limits.{input_limit};
-ghost use Rattle.plant_model.specs.Plant.{Plant, Sample as TheSample, AllWithinLimit};
-ghost use Rattle.plant_model.specs.Seen.{plant_of, sample_of};
-ghost use Rattle.observer_step.specs.Answers.{zonotope_observer};
-ghost use Rattle.model_bank.specs.Answers.{sample_answer};
+ghost use Rattle.plant_model.specs.Plant.{AllWithinLimit};
+ghost use Rattle.plant_model.specs.Seen.{sample_of};
 
+use crate::claim::claim_on;
 use crate::member::Member;
-use crate::{ModelRec, SampleRec};
+use crate::{BadOffer, ModelRec, Refused, SampleRec};
 use arrayvec::ArrayVec;
+use farkas_check::Cert;
 use isolate_core::judge;
 use model_file::{Bank0, NamedPlant};
-use observer_step::Room;
+use observer_step::{Room, Unjustified};
 use plant_model::Sample;
 use std::alloc::{AllocError, Global};
 use std::marker::Model;
@@ -54,14 +54,16 @@ impl Model for Bank {
 
 impl Bank {
     ghost use Rattle.model_bank.specs.Bank.{BankStands, plants_in};
-    ghost use Rattle.model_bank.specs.Seen.{sample_seen};
-    ghost use Rattle.model_bank.specs.Stepping.{RecordsSample, StandsLonger};
+    ghost use Rattle.model_bank.specs.Offers.{BankTakes, BankRefuses};
+    ghost use Rattle.model_bank.specs.Seen.{sample_seen, offers_seen, refusal_with, refusal_seen};
+    ghost use Rattle.model_bank.specs.Stepping.{RecordsSample, StandsLonger, TakesAnyOffers, RefusesAnOffer};
 
     /// The bank before the first sample. Takes all the memory that a bank needs; the error is want of it.
     pub fn begin(alloc: Global, models: Bank0) -> Result<Bank, AllocError>
-        ensures stands { IfOk result (λ b. BankStands (plants_in models) [] b) }
+        ensures stands { IfOk result (BankStands (plants_in models) [] (replicate (length (plants_in models)) true)) }
         ensures inputs { IfOk result (λ b. b.inputs ≡ length models.inputs) }
         ensures outputs { IfOk result (λ b. b.outputs ≡ length models.outputs) }
+        ensures members { IfOk result (λ b. length b.members ≡ length models.models) }
         ensures count { IfOk result (λ b. b.count ≡ 0) }
     {
         let inputs = models.inputs().len();
@@ -93,6 +95,7 @@ impl Bank {
         ensures stands { StandsLonger (sample_of sample.now) self.old self.new }
         ensures inputs { self.new.inputs ≡ self.old.inputs }
         ensures outputs { self.new.outputs ≡ self.old.outputs }
+        ensures members { length self.new.members ≡ length self.old.members }
         ensures count { self.new.count ≡ self.old.count + 1 }
         ensures k { result.k ≡ self.old.count }
     {
@@ -110,8 +113,88 @@ impl Bank {
         ensures stands { StandsLonger (sample_of sample.now) self.old self.new }
         ensures inputs { self.new.inputs ≡ self.old.inputs }
         ensures outputs { self.new.outputs ≡ self.old.outputs }
+        ensures members { length self.new.members ≡ length self.old.members }
         ensures count { self.new.count ≡ self.old.count + 1 }
         ensures k { earlier.new.k ≡ self.old.count }
+    {
+        self.take(sample, None, earlier).unwrap();
+    }
+
+    /// Takes a sample with a certificate, or none, offered for each model of the file: every live model is judged by its
+    /// offer, where that is justified. The error is the first whose offer is not. Takes no memory. After an error the bank
+    /// stands for no samples. An offer for a model that is not live is not looked at.
+    pub fn step_with(&mut self, sample: &Sample, offered: &[Option<Cert>]) -> Result<SampleRec, BadOffer>
+        requires inputs { length sample.now.u.items ≡ self.old.inputs }
+        requires outputs { length sample.now.y.items ≡ self.old.outputs }
+        requires counted { self.old.count < 2 ^ 63 }
+        requires offers { length offered.now ≡ length self.old.members }
+        ensures taken { IfOk result (λ told.
+            TakesAnyOffers (sample_of sample.now) (offers_seen offered.now) self.old (sample_seen told) self.new) }
+        ensures refused { IfErr result (λ bad.
+            RefusesAnOffer (sample_of sample.now) (offers_seen offered.now) self.old (refusal_seen bad)) }
+        ensures inputs { self.new.inputs ≡ self.old.inputs }
+        ensures outputs { self.new.outputs ≡ self.old.outputs }
+        ensures members { length self.new.members ≡ length self.old.members }
+        ensures count { OnOk result (self.new.count ≡ self.old.count + 1) }
+        ensures k { IfOk result (λ told. told.k ≡ self.old.count) }
+    {
+        let mut record = SampleRec::new();
+        match self.step_with_into(sample, offered, &mut record) {
+            Ok(()) => Ok(record),
+            Err(Refused { model, why, preds }) => Err(BadOffer {
+                model,
+                why,
+                before: record.models,
+                preds,
+            }),
+        }
+    }
+
+    /// The same, with the record put in the place of an earlier one. After an error it has the records of the live models
+    /// below the one that is refused.
+    pub fn step_with_into(
+        &mut self,
+        sample: &Sample,
+        offered: &[Option<Cert>],
+        earlier: &mut SampleRec,
+    ) -> Result<(), Refused>
+        requires inputs { length sample.now.u.items ≡ self.old.inputs }
+        requires outputs { length sample.now.y.items ≡ self.old.outputs }
+        requires counted { self.old.count < 2 ^ 63 }
+        requires offers { length offered.now ≡ length self.old.members }
+        ensures taken { OnOk result
+            (TakesAnyOffers (sample_of sample.now) (offers_seen offered.now) self.old (sample_seen earlier.new) self.new) }
+        ensures refused { IfErr result (λ refused.
+            RefusesAnOffer (sample_of sample.now) (offers_seen offered.now) self.old (refusal_with refused earlier.new.models.items)) }
+        ensures inputs { self.new.inputs ≡ self.old.inputs }
+        ensures outputs { self.new.outputs ≡ self.old.outputs }
+        ensures members { length self.new.members ≡ length self.old.members }
+        ensures count { OnOk result (self.new.count ≡ self.old.count + 1) }
+        ensures k { OnOk result (earlier.new.k ≡ self.old.count) }
+    {
+        self.take(sample, Some(offered), earlier)
+    }
+
+    /// Takes a sample by the certificates that are offered, or by the due ones, which no model refuses.
+    fn take(
+        &mut self,
+        sample: &Sample,
+        offered: Option<&[Option<Cert>]>,
+        earlier: &mut SampleRec,
+    ) -> Result<(), Refused>
+        requires inputs { length sample.now.u.items ≡ self.old.inputs }
+        requires outputs { length sample.now.y.items ≡ self.old.outputs }
+        requires counted { self.old.count < 2 ^ 63 }
+        requires offers { IfSome offered (λ offers. length offers.now ≡ length self.old.members) }
+        ensures taken { OnOk result (BankTakes (sample_of sample.now) offered.entry self.old (sample_seen earlier.new) self.new) }
+        ensures refused { IfErr result (λ refused.
+            BankRefuses (sample_of sample.now) offered.entry self.old (refusal_with refused earlier.new.models.items)) }
+        ensures due { offered.entry ≡ None → IsOk result }
+        ensures inputs { self.new.inputs ≡ self.old.inputs }
+        ensures outputs { self.new.outputs ≡ self.old.outputs }
+        ensures members { length self.new.members ≡ length self.old.members }
+        ensures count { OnOk result (self.new.count ≡ self.old.count + 1) }
+        ensures k { OnOk result (earlier.new.k ≡ self.old.count) }
     {
         earlier.k = self.count;
         take_all(
@@ -120,19 +203,21 @@ impl Bank {
             &self.last,
             sample,
             &mut self.room,
+            offered,
             &mut earlier.models,
-        );
+        )?;
         tell_possible(&self.members, &mut earlier.possible);
         earlier.verdict = judge(&earlier.possible);
         self.count += 1;
         replace(&mut self.last, &sample.u);
+        Ok(())
     }
 }
 
 ghost use Rattle.model_file.specs.Seen.{named};
 ghost use Rattle.model_bank.specs.Bank.{HasPlantOf, begun as begun_of};
-ghost use Rattle.model_bank.specs.Seen.{model_seen};
-ghost use Rattle.model_bank.specs.Steps.{answers_of, member_after};
+ghost use Rattle.model_bank.specs.Seen.{model_seen, refusal_with};
+ghost use Rattle.model_bank.specs.Offers.{claims_of, MembersTake, RefusesMember};
 
 /// The members of these plants, before the first sample.
 fn begun(alloc: Global, models: Vec<NamedPlant>) -> Result<Vec<Member>, AllocError>
@@ -146,28 +231,55 @@ fn begun(alloc: Global, models: Vec<NamedPlant>) -> Result<Vec<Member>, AllocErr
     Ok(members)
 }
 
-/// What a sample makes of the models that are live, by index; `last` are the inputs of the sample before, which the first has not.
+/// What a sample makes of the models that are live, by index, up to the first that is not judged by what is claimed of it;
+/// `last` are the inputs of the sample before, which the first has not.
 fn take_all(
     members: &mut [Member],
     is_first: bool,
     last: &ArrayVec<i128, 4>,
     sample: &Sample,
     room: &mut Room,
+    offered: Option<&[Option<Cert>]>,
     models: &mut ArrayVec<ModelRec, 16>,
-)
+) -> Result<(), Refused>
     requires few { length members.old ≤ 16 }
     requires counts { All (HasPlantOf (length sample.now.u.items) (length sample.now.y.items)) members.old }
     requires last_inputs { is_first ≡ false → length last.now.items ≡ length sample.now.u.items }
     requires last_small { AllWithinLimit input_limit last.now.items }
-    ensures answers { map model_seen models.new.items ≡ answers_of is_first last.now.items (sample_of sample.now) 0 members.old }
-    ensures members { members.new ≡ map (member_after is_first last.now.items (sample_of sample.now)) members.old }
+    requires offers { IfSome offered (λ offers. length offers.now ≡ length members.old) }
+    ensures taken { OnOk result (MembersTake is_first last.now.items (sample_of sample.now) members.old
+        (claims_of is_first last.now.items (sample_of sample.now) members.old offered.entry) (map model_seen models.new.items) members.new) }
+    ensures refused { IfErr result (λ refused. RefusesMember is_first last.now.items (sample_of sample.now) members.old
+        (claims_of is_first last.now.items (sample_of sample.now) members.old offered.entry) (refusal_with refused models.new.items)) }
+    ensures due { offered.entry ≡ None → IsOk result }
+    ensures counts { All (HasPlantOf (length sample.now.u.items) (length sample.now.y.items)) members.new }
 {
     models.clear();
     for i in 0..members.len() {
         let member = &mut members[i];
-        if let Some(model) = member.take(i as u32, is_first, last, sample, room) {
-            models.push(model);
+        let claim = claim_on(offered, i);
+        match member.take(i as u32, is_first, last, sample, room, claim) {
+            Ok(told) => add(models, told),
+            Err(Unjustified { outs, why }) => {
+                return Err(Refused {
+                    model: i as u32,
+                    why,
+                    preds: outs,
+                });
+            }
         }
+    }
+    Ok(())
+}
+
+/// Puts what is told of a model, if anything, behind what is told of the others.
+#[inline]
+fn add(models: &mut ArrayVec<ModelRec, 16>, told: Option<ModelRec>)
+    requires { length models.old.items < 16 }
+    ensures { models.new.items ≡ models.old.items ++ option_to_list told }
+{
+    if let Some(model) = told {
+        models.push(model);
     }
 }
 

@@ -1,19 +1,22 @@
 //! One model of a bank, of a plant of `N` states.
 
-ghost use Rattle.std.specs.Prelude.{◌≡◌, ◌≤◌, true, false, Some, None, length, is_none, option_map, if◌then◌else◌};
+ghost use Rattle.std.specs.Prelude.{◌≡◌, ◌≤◌, true, false, IfOk, IfErr, length, is_none, option_map};
 ghost use Rattle.std.specs.List.{list_all};
 ghost use Rattle.set_rules.specs.Limits.{input_limit};
 ghost use Rattle.plant_model.specs.Plant.{AllWithinLimit};
 ghost use Rattle.plant_model.specs.Seen.{sample_of};
 ghost use Rattle.observer_step.specs.Predicted.{hulls as hulls_of};
+ghost use Rattle.observer_step.specs.Offers.{outs_in};
 ghost use Rattle.observer_step.specs.Seen.{was_widened, certificate_in, is_printable_interval};
 ghost use Rattle.model_bank.specs.Bank.{begun};
+ghost use Rattle.model_bank.specs.Claims.{SetTakes, SetRefuses, ModelTakes, MemberTakes, MemberRefuses};
 ghost use Rattle.model_bank.specs.Seen.{model_seen};
-ghost use Rattle.model_bank.specs.Steps.{set_ahead, widens, answer_on, told_of, set_on, member_after};
+ghost use Rattle.model_bank.specs.Steps.{set_ahead, widens};
 
 use crate::ModelRec;
+use crate::claim::Claim;
 use arrayvec::ArrayVec;
-use observer_step::{Est, Judgement, Kept, Outcome, Room};
+use observer_step::{Est, Judgement, Kept, Outcome, Room, Unjustified};
 use plant_model::{Plant, Sample};
 use std::marker::Model;
 
@@ -53,7 +56,8 @@ impl<const N: usize> Follower<N> {
         self.live
     }
 
-    /// What a sample makes of the model, where it is live; `last` are the inputs of the sample before, which the first has not.
+    /// What a sample makes of the model, where it is live, or why it is not judged by what is claimed; `last` are the inputs
+    /// of the sample before, which the first has not.
     pub fn take(
         &mut self,
         index: u32,
@@ -61,21 +65,25 @@ impl<const N: usize> Follower<N> {
         last: &ArrayVec<i128, 4>,
         sample: &Sample,
         room: &mut Room,
-    ) -> Option<ModelRec>
+        claim: Claim,
+    ) -> Result<Option<ModelRec>, Unjustified>
         requires inputs { length sample.now.u.items ≡ self.old.plant.inputs }
         requires outputs { length sample.now.y.items ≡ self.old.plant.outputs }
         requires last_inputs { is_first ≡ false → length last.now.items ≡ self.old.plant.inputs }
         requires last_small { AllWithinLimit input_limit last.now.items }
-        ensures answer { option_map model_seen result ≡ told_of is_first last.now.items (sample_of sample.now) index self.old }
-        ensures member { self.new ≡ member_after is_first last.now.items (sample_of sample.now) self.old }
+        ensures taken { IfOk result (λ told.
+            MemberTakes is_first last.now.items (sample_of sample.now) index self.old self.new claim (option_map model_seen told)) }
+        ensures refused { IfErr result (MemberRefuses is_first last.now.items (sample_of sample.now) self.old claim) }
+        ensures printable { IfErr result (λ e. list_all is_printable_interval e.outs.items ≡ true) }
+        ensures plant { self.new.plant ≡ self.old.plant }
     {
         if !self.live {
-            return None;
+            return Ok(None);
         }
         let kept = go_ahead(&self.plant, &mut self.estimate, is_first, last);
-        let model = judge(&self.plant, &mut self.estimate, index, kept, sample, room);
+        let model = judge(&self.plant, &mut self.estimate, index, kept, sample, room, claim)?;
         self.live = fits(&model.outcome);
-        Some(model)
+        Ok(Some(model))
     }
 }
 
@@ -107,28 +115,50 @@ fn judge<const N: usize>(
     kept: Kept,
     sample: &Sample,
     room: &mut Room,
-) -> ModelRec
+    claim: Claim,
+) -> Result<ModelRec, Unjustified>
     requires inputs { length sample.now.u.items ≡ plant.now.inputs }
     requires outputs { length sample.now.y.items ≡ plant.now.outputs }
-    ensures answer { let answer = answer_on plant.now (sample_of sample.now) estimate.old.plain (was_widened kept) in
-        model_seen result ≡ record { index = index; answer = answer } }
-    ensures set { estimate.new.plain ≡ set_on plant.now (sample_of sample.now) estimate.old.plain }
+    ensures taken { IfOk result (λ model.
+        ModelTakes plant.now (sample_of sample.now) estimate.old.plain estimate.new.plain (was_widened kept) claim index (model_seen model)) }
+    ensures refused { IfErr result (SetRefuses plant.now (sample_of sample.now) estimate.old.plain claim) }
+    ensures printable { IfErr result (λ e. list_all is_printable_interval e.outs.items ≡ true) }
 {
     let Judgement {
         outs: preds,
         outcome,
-    } = estimate.judge(plant, sample, room);
+    } = judge_by(plant, estimate, sample, room, claim)?;
     let hulls = if fits(&outcome) {
         hulls(plant, estimate)
     } else {
         ArrayVec::new()
     };
-    ModelRec {
+    Ok(ModelRec {
         index,
         preds,
         kept,
         outcome,
         hulls,
+    })
+}
+
+/// What a sample says of a model by what is claimed of it.
+fn judge_by<const N: usize>(
+    plant: &Plant<N>,
+    estimate: &mut Est<N>,
+    sample: &Sample,
+    room: &mut Room,
+    claim: Claim,
+) -> Result<Judgement, Unjustified>
+    requires inputs { length sample.now.u.items ≡ plant.now.inputs }
+    requires outputs { length sample.now.y.items ≡ plant.now.outputs }
+    ensures taken { IfOk result (SetTakes plant.now (sample_of sample.now) estimate.old.plain estimate.new.plain claim) }
+    ensures refused { IfErr result (SetRefuses plant.now (sample_of sample.now) estimate.old.plain claim) }
+    ensures printable { list_all is_printable_interval (outs_in result) ≡ true }
+{
+    match claim {
+        Claim::Due => Ok(estimate.judge(plant, sample, room)),
+        Claim::Offered(offered) => estimate.judge_with(plant, sample, room, offered),
     }
 }
 

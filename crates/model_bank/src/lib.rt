@@ -2,9 +2,10 @@
 #![tactic(auto)]
 
 mod bank;
+mod claim;
 mod follower;
 mod member;
 mod record;
 
 pub use bank::Bank;
-pub use record::{ModelRec, SampleRec};
+pub use record::{BadOffer, ModelRec, Refused, SampleRec};

@@ -1,14 +1,17 @@
 //! One model of a bank, of any number of states.
 
-ghost use Rattle.std.specs.Prelude.{◌≡◌, false, Some, None, length, option_map, if◌then◌else◌};
+ghost use Rattle.std.specs.Prelude.{◌≡◌, true, false, IfOk, IfErr, length, option_map};
+ghost use Rattle.std.specs.List.{list_all};
 ghost use Rattle.set_rules.specs.Limits.{input_limit};
 ghost use Rattle.plant_model.specs.Plant.{AllWithinLimit};
 ghost use Rattle.plant_model.specs.Seen.{plant_of, sample_of};
+ghost use Rattle.observer_step.specs.Seen.{is_printable_interval};
 
 use crate::ModelRec;
+use crate::claim::Claim;
 use crate::follower::Follower;
 use arrayvec::ArrayVec;
-use observer_step::Room;
+use observer_step::{Room, Unjustified};
 use plant_model::{AnyPlant, Sample};
 use std::marker::Model;
 
@@ -44,7 +47,7 @@ impl Model for Member {
 impl Member {
     ghost use Rattle.model_bank.specs.Bank.{begun};
     ghost use Rattle.model_bank.specs.Seen.{model_seen};
-    ghost use Rattle.model_bank.specs.Steps.{told_of, member_after};
+    ghost use Rattle.model_bank.specs.Claims.{MemberTakes, MemberRefuses};
 
     /// The model of a plant before the first sample.
     pub fn begin(plant: AnyPlant) -> Member
@@ -62,7 +65,8 @@ impl Member {
         is_live(&self.follower)
     }
 
-    /// What a sample makes of the model, where it is live; `last` are the inputs of the sample before, which the first has not.
+    /// What a sample makes of the model, where it is live, or why it is not judged by what is claimed; `last` are the inputs
+    /// of the sample before, which the first has not.
     pub fn take(
         &mut self,
         index: u32,
@@ -70,21 +74,25 @@ impl Member {
         last: &ArrayVec<i128, 4>,
         sample: &Sample,
         room: &mut Room,
-    ) -> Option<ModelRec>
+        claim: Claim,
+    ) -> Result<Option<ModelRec>, Unjustified>
         requires inputs { length sample.now.u.items ≡ self.old.plant.inputs }
         requires outputs { length sample.now.y.items ≡ self.old.plant.outputs }
         requires last_inputs { is_first ≡ false → length last.now.items ≡ self.old.plant.inputs }
         requires last_small { AllWithinLimit input_limit last.now.items }
-        ensures answer { option_map model_seen result ≡ told_of is_first last.now.items (sample_of sample.now) index self.old }
-        ensures member { self.new ≡ member_after is_first last.now.items (sample_of sample.now) self.old }
+        ensures taken { IfOk result (λ told.
+            MemberTakes is_first last.now.items (sample_of sample.now) index self.old self.new claim (option_map model_seen told)) }
+        ensures refused { IfErr result (MemberRefuses is_first last.now.items (sample_of sample.now) self.old claim) }
+        ensures printable { IfErr result (λ e. list_all is_printable_interval e.outs.items ≡ true) }
+        ensures plant { self.new.plant ≡ self.old.plant }
     {
-        take(&mut self.follower, index, is_first, last, sample, room)
+        take(&mut self.follower, index, is_first, last, sample, room, claim)
     }
 }
 
 ghost use Rattle.model_bank.specs.Bank.{begun};
 ghost use Rattle.model_bank.specs.Seen.{model_seen};
-ghost use Rattle.model_bank.specs.Steps.{told_of, member_after};
+ghost use Rattle.model_bank.specs.Claims.{MemberTakes, MemberRefuses};
 ghost use Rattle.model_bank.specs.Members.{member_of};
 
 /// The follower of a plant before the first sample.
@@ -119,7 +127,7 @@ fn is_live(follower: &AnyFollower) -> bool
     }
 }
 
-/// What a sample makes of the model, where it is live.
+/// What a sample makes of the model, where it is live, or why it is not judged by what is claimed.
 fn take(
     follower: &mut AnyFollower,
     index: u32,
@@ -127,22 +135,26 @@ fn take(
     last: &ArrayVec<i128, 4>,
     sample: &Sample,
     room: &mut Room,
-) -> Option<ModelRec>
+    claim: Claim,
+) -> Result<Option<ModelRec>, Unjustified>
     requires inputs { length sample.now.u.items ≡ (member_of follower.old).plant.inputs }
     requires outputs { length sample.now.y.items ≡ (member_of follower.old).plant.outputs }
     requires last_inputs { is_first ≡ false → length last.now.items ≡ (member_of follower.old).plant.inputs }
     requires last_small { AllWithinLimit input_limit last.now.items }
-    ensures answer { option_map model_seen result ≡ told_of is_first last.now.items (sample_of sample.now) index (member_of follower.old) }
-    ensures member { member_of follower.new ≡ member_after is_first last.now.items (sample_of sample.now) (member_of follower.old) }
+    ensures taken { IfOk result (λ told. MemberTakes is_first last.now.items (sample_of sample.now) index
+        (member_of follower.old) (member_of follower.new) claim (option_map model_seen told)) }
+    ensures refused { IfErr result (MemberRefuses is_first last.now.items (sample_of sample.now) (member_of follower.old) claim) }
+    ensures printable { IfErr result (λ e. list_all is_printable_interval e.outs.items ≡ true) }
+    ensures plant { (member_of follower.new).plant ≡ (member_of follower.old).plant }
 {
     match follower {
-        AnyFollower::N1(f) => f.take(index, is_first, last, sample, room),
-        AnyFollower::N2(f) => f.take(index, is_first, last, sample, room),
-        AnyFollower::N3(f) => f.take(index, is_first, last, sample, room),
-        AnyFollower::N4(f) => f.take(index, is_first, last, sample, room),
-        AnyFollower::N5(f) => f.take(index, is_first, last, sample, room),
-        AnyFollower::N6(f) => f.take(index, is_first, last, sample, room),
-        AnyFollower::N7(f) => f.take(index, is_first, last, sample, room),
-        AnyFollower::N8(f) => f.take(index, is_first, last, sample, room),
+        AnyFollower::N1(f) => f.take(index, is_first, last, sample, room, claim),
+        AnyFollower::N2(f) => f.take(index, is_first, last, sample, room, claim),
+        AnyFollower::N3(f) => f.take(index, is_first, last, sample, room, claim),
+        AnyFollower::N4(f) => f.take(index, is_first, last, sample, room, claim),
+        AnyFollower::N5(f) => f.take(index, is_first, last, sample, room, claim),
+        AnyFollower::N6(f) => f.take(index, is_first, last, sample, room, claim),
+        AnyFollower::N7(f) => f.take(index, is_first, last, sample, room, claim),
+        AnyFollower::N8(f) => f.take(index, is_first, last, sample, room, claim),
     }
 }

@@ -5,7 +5,7 @@ ghost use Rattle.observer_step.specs.Seen.{is_printable_interval};
 
 use arrayvec::ArrayVec;
 use isolate_core::Verdict;
-use observer_step::{Kept, Outcome};
+use observer_step::{Kept, NotJustified, Outcome};
 
 /// What a sample makes of one model that was live before it.
 #[derive(Drop)]
@@ -68,4 +68,30 @@ impl SampleRec {
             verdict: Verdict::None,
         }
     }
+}
+
+/// The first model of which what was offered is not justified.
+#[derive(Drop)]
+pub struct Refused {
+    /// The model.
+    pub model: u32,
+    /// What was offered, and which output is due.
+    pub why: NotJustified,
+    /// The predicted interval of each output, in nano-units, each end within `10^24`.
+    pub preds: ArrayVec<(i128, i128), 6>,
+    ghost printable: { list_all is_printable_interval preds.items ≡ true },
+}
+
+/// The first model of which what was offered is not justified, and the records of the models below it.
+#[derive(Drop)]
+pub struct BadOffer {
+    /// The model.
+    pub model: u32,
+    /// What was offered, and which output is due.
+    pub why: NotJustified,
+    /// The models below it that were live before the sample, by index.
+    pub before: ArrayVec<ModelRec, 16>,
+    /// The predicted interval of each output, in nano-units, each end within `10^24`.
+    pub preds: ArrayVec<(i128, i128), 6>,
+    ghost printable: { list_all is_printable_interval preds.items ≡ true },
 }

@@ -1,7 +1,7 @@
 -- The first reading of a sample, output after output.
-use Rattle.std.proofs.Common.{◌≡◌, ℕ, ◌+◌, ◌<◌, ◌⊎◌, ⊎_elim, List, Option, Some, None, is_some, true, false, ℤ, ◌∙◌, sym, ap, arith, below_more}
+use Rattle.std.proofs.Common.{◌≡◌, ℕ, ◌+◌, List, Option, Some, None, is_some, true, false, ℤ, arith, below_more}
 use Rattle.set_rules.specs.Zono.{Zono}
-use Rattle.plant_model.specs.Plant.{Plant, Present, Sample, reading_at}
+use Rattle.plant_model.specs.Plant.{Plant, Sample, reading_at}
 use Rattle.observer_step.specs.declared.ahead.FirstReading.{FirstReading}
 use Rattle.observer_step.specs.Ahead.{NoneBefore, HasFirst, IsFirst}
 

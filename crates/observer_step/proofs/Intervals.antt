@@ -1,13 +1,13 @@
 -- The row of a reading gives the interval that is predicted of its output.
-use Rattle.std.proofs.Common.{◌≡◌, ◌≤◌, ◌^◌, ◌&&◌, true, ℕ, ◌+◌, List, [], ◌∷◌, ◌++◌, length, ℤ, pos, ◌+ℤ◌, ◌-ℤ◌, ◌*ℤ◌, ◌≤ℤ◌, unsigned_abs, sym, ap, ◌∙◌, arith}
+use Rattle.std.proofs.Common.{◌≡◌, ◌≤◌, ◌^◌, ◌&&◌, true, ℕ, List, [], ◌∷◌, ◌++◌, length, ℤ, pos, ◌+ℤ◌, ◌-ℤ◌, ◌≤ℤ◌, unsigned_abs, ap, ◌∙◌, arith}
 use Rattle.std.proofs.lemmas.Int.{ints}
 use Rattle.std.proofs.lemmas.List.Sums.{sum_by-append}
 use Rattle.std.proofs.lemmas.List.Folds.{list_all-append}
 use Rattle.std.proofs.lemmas.Bool.Decides.{nat_tests}
 use Rattle.std.specs.List.{list_all, sum_by}
-use Rattle.set_rules.specs.Sum.{total, magnitude}
+use Rattle.set_rules.specs.Sum.{total}
 use Rattle.set_rules.specs.Columns.{at, tabulate}
-use Rattle.set_rules.specs.Round.{unit, rnd, residue, ceil_s}
+use Rattle.set_rules.specs.Round.{rnd, residue}
 use Rattle.set_rules.specs.Zono.{Zono}
 use Rattle.set_rules.specs.Rows.{Row}
 use Rattle.set_rules.specs.Strip.{strip_row, raw_output, raw_coefficient, output_slack, half_width, out_interval}

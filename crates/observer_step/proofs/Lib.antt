@@ -8,3 +8,4 @@ pub mod Taken
 pub mod Judged
 pub mod Intervals
 pub mod FirstReadings
+pub mod Offered

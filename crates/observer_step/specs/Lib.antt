@@ -5,3 +5,4 @@ pub mod Seen
 pub mod Laws
 pub mod Ahead
 pub mod Missed
+pub mod Offers

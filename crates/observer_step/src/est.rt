@@ -1,24 +1,26 @@
 //! The estimate of one model: the set that follows its plant through the telemetry.
 
-ghost use Rattle.std.specs.Prelude.{◌≡◌, ◌<◌, ◌≤◌, ◌^◌, [], true, None, IsSome, length, option_map, unsigned_abs};
+ghost use Rattle.std.specs.Prelude.{◌≡◌, ◌<◌, ◌≤◌, ◌^◌, [], true, None, IsSome, IfOk, length, option_map, unsigned_abs};
 ghost use Rattle.std.specs.List.{list_all};
 ghost use Rattle.set_rules.specs.Box.{hull as hull_of};
 ghost use Rattle.set_rules.specs.Limits.{input_limit};
 ghost use Rattle.set_rules.specs.Zono.{range};
-ghost use Rattle.farkas_check.specs.Certificate.{by_out};
+ghost use Rattle.farkas_check.specs.Certificate.{by_out, certificate_of};
 ghost use Rattle.plant_model.specs.Plant.{AllWithinLimit};
 ghost use Rattle.plant_model.specs.Seen.{sample_of};
 ghost use Rattle.observer_step.specs.Predicted.{first_set, predicted_outs, due};
 ghost use Rattle.observer_step.specs.Estimate.{leaves_range, predict as predict_of, correct as correct_of};
 ghost use Rattle.observer_step.specs.Estimate.{state_box as state_box_of, image_columns, StandsReady, LeadsOn};
-ghost use Rattle.observer_step.specs.Answers.{Judges};
+ghost use Rattle.observer_step.specs.Answers.{Judges, Justifies};
+ghost use Rattle.observer_step.specs.Offers.{set_offered, outs_in, answer_in, AnswersOffer};
 ghost use Rattle.observer_step.specs.Seen.{was_widened, certificate_in, is_printable_interval};
 
-use crate::ahead::{Ahead, look_ahead, predicted};
+use crate::ahead::predicted;
 use crate::inputs::shift;
-use crate::readings::{missed, take_readings};
+use crate::offer::{is_justified, offers_output, outcome_by, outcome_due};
+use crate::pass::{Passed, pass_over};
 use crate::room::Room;
-use crate::{Judgement, Kept, Outcome, PLAIN_COLUMNS};
+use crate::{Judgement, Kept, NotJustified, Outcome, PLAIN_COLUMNS, Unjustified};
 use arrayvec::ArrayVec;
 use farkas_check::Cert;
 use fixed_mat::Mat;
@@ -103,6 +105,27 @@ impl<const N: usize> Est<N> {
         self.judge(plant, sample, &mut room).outcome
     }
 
+    /// The same by a certificate that is offered, or by none, where that is justified. Else the answer is why not. The set
+    /// takes the readings where no output is due and none is offered.
+    pub fn correct_with(
+        &mut self,
+        plant: &Plant<N>,
+        sample: &Sample,
+        offered: Option<Cert>,
+    ) -> Result<Outcome, NotJustified>
+        requires inputs { length sample.now.u.items ≡ plant.now.inputs }
+        requires outputs { length sample.now.y.items ≡ plant.now.outputs }
+        ensures outcome { AnswersOffer (due plant.now (sample_of sample.now) self.old.plain) offered result }
+        ensures set { self.new.plain ≡ set_offered plant.now (sample_of sample.now) self.old.plain (option_map certificate_of offered) }
+        ensures stands { IfOk result (λ outcome. Justifies plant.now (sample_of sample.now) self.old self.new (certificate_in outcome)) }
+    {
+        let mut room = Room::new();
+        match self.judge_with(plant, sample, &mut room, offered) {
+            Ok(judgement) => Ok(judgement.outcome),
+            Err(unjustified) => Err(unjustified.why),
+        }
+    }
+
     /// What `outs` and `correct` say of the sample, by one computation in room that is lent:
     /// the row of the first reading gives its predicted interval too.
     pub fn judge(&mut self, plant: &Plant<N>, sample: &Sample, room: &mut Room) -> Judgement
@@ -115,23 +138,51 @@ impl<const N: usize> Est<N> {
         ensures excluded { IsSome (certificate_in result.outcome) → self.new ≡ self.old }
         ensures stands { Judges plant.now (sample_of sample.now) self.old self.new (certificate_in result.outcome) }
     {
-        let _ = plant.outputs();
-        let Ahead { outs, first } = look_ahead(&self.plain, &mut room.row, plant, sample);
-        let outcome = match missed(&outs, &sample.y) {
-            Some(o) => Outcome::Excluded(Cert::Out(o as u32)),
-            None => {
-                take_readings(
-                    &mut self.plain,
-                    &mut self.refusals,
-                    room,
-                    plant,
-                    sample,
-                    first,
-                );
-                Outcome::Fits
-            }
-        };
-        Judgement { outs, outcome }
+        let Passed { outs, due } = pass_over(
+            &mut self.plain,
+            &mut self.refusals,
+            room,
+            plant,
+            sample,
+            true,
+        );
+        Judgement {
+            outs,
+            outcome: outcome_due(due),
+        }
+    }
+
+    /// What `outs` and `correct_with` say of the sample, by one computation in room that is lent.
+    pub fn judge_with(
+        &mut self,
+        plant: &Plant<N>,
+        sample: &Sample,
+        room: &mut Room,
+        offered: Option<Cert>,
+    ) -> Result<Judgement, Unjustified>
+        requires inputs { length sample.now.u.items ≡ plant.now.inputs }
+        requires outputs { length sample.now.y.items ≡ plant.now.outputs }
+        ensures outs { outs_in result ≡ predicted_outs plant.now sample.now.u.items self.old.plain }
+        ensures printable { list_all is_printable_interval (outs_in result) ≡ true }
+        ensures outcome { AnswersOffer (due plant.now (sample_of sample.now) self.old.plain) offered (answer_in result) }
+        ensures set { self.new.plain ≡ set_offered plant.now (sample_of sample.now) self.old.plain (option_map certificate_of offered) }
+        ensures stands { IfOk result (λ judgement. Justifies plant.now (sample_of sample.now) self.old self.new (certificate_in judgement.outcome)) }
+    {
+        let wanted = !offers_output(&offered);
+        let Passed { outs, due } = pass_over(
+            &mut self.plain,
+            &mut self.refusals,
+            room,
+            plant,
+            sample,
+            wanted,
+        );
+        if !is_justified(due, &offered) {
+            let why = NotJustified { due, offered };
+            return Err(Unjustified { outs, why });
+        }
+        let outcome = outcome_by(offered);
+        Ok(Judgement { outs, outcome })
     }
 }
 

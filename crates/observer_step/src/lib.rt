@@ -16,12 +16,14 @@ ghost use Rattle.observer_step.specs.Laws.{
 mod ahead;
 mod est;
 mod inputs;
+mod offer;
 mod outcome;
+mod pass;
 mod readings;
 mod room;
 
 pub use est::Est;
-pub use outcome::{Judgement, Kept, Outcome};
+pub use outcome::{Judgement, Kept, NotJustified, Outcome, Unjustified};
 pub use room::Room;
 
 /// How many columns a set keeps between samples.

@@ -28,3 +28,20 @@ pub struct Judgement {
     pub outs: ArrayVec<(i128, i128), 6>,
     pub outcome: Outcome,
 }
+
+/// Why a sample is not judged by what was offered.
+#[derive(Clone, Copy, Debug)]
+pub struct NotJustified {
+    /// The output that is due, if any.
+    pub due: Option<u32>,
+    /// The certificate that was offered, if any.
+    pub offered: Option<Cert>,
+}
+
+/// What a model predicts of a sample, and why the sample is not judged by what was offered.
+#[derive(Drop)]
+pub struct Unjustified {
+    /// The predicted interval of each output, in nano-units.
+    pub outs: ArrayVec<(i128, i128), 6>,
+    pub why: NotJustified,
+}

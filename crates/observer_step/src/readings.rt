@@ -1,6 +1,6 @@
 //! The readings of a sample: which of them misses, and what they leave of a set.
 
-ghost use Rattle.std.specs.Prelude.{◌≡◌, ◌+◌, ◌<◌, ◌≤◌, length, pos, IfSome, ◌≤ℤ◌, unsigned_abs};
+ghost use Rattle.std.specs.Prelude.{◌≡◌, ◌+◌, ◌<◌, ◌≤◌, length, pos, ◌≤ℤ◌, unsigned_abs};
 ghost use Rattle.std.specs.List.{All};
 ghost use Rattle.set_rules.specs.Limits.{input_limit, row_limit, most_states};
 ghost use Rattle.set_rules.specs.Products.{row_with};
@@ -22,15 +22,15 @@ use row_drop::gain_within;
 use zono_set::{Refusals, Zono};
 
 /// The least output whose reading misses its interval.
-pub fn missed(outs: &[(i128, i128)], readings: &[Reading]) -> Option<usize>
+pub fn missed(outs: &[(i128, i128)], readings: &[Reading]) -> Option<u32>
+    requires few { length outs.now ≤ 6 }
     requires count { length readings.now ≡ length outs.now }
     requires limits { All IsReading readings.now }
-    ensures value { result ≡ first_missed outs.now readings.now }
-    ensures within { IfSome result (λ o. o < length outs.now) }
+    ensures { result ≡ first_missed outs.now readings.now }
 {
     for o in 0..outs.len() {
         if misses(outs[o], readings[o]) {
-            return Some(o);
+            return Some(o as u32);
         }
     }
     None

@@ -1,26 +1,30 @@
-use Rattle.std.proofs.Common.{ap, ◌∙◌, sym}
+use Rattle.std.proofs.Common.{◌≡◌, [], is_none, if◌then◌else◌, sym, ap, ◌∙◌}
 use Rattle.plant_model.specs.Seen.{sample_of}
-use Rattle.observer_step.specs.Seen.{was_widened, certificate_in}
-use Rattle.model_bank.proofs.Judged.{set-judged, hulls-judged, no_hulls-judged, answer-judged}
+use Rattle.observer_step.specs.Predicted.{hulls}
+use Rattle.observer_step.specs.Estimate.{correct}
+use Rattle.observer_step.specs.Seen.{was_widened}
+use Rattle.model_bank.specs.Claims.{claimed_on}
+use Rattle.model_bank.proofs.Judged.{hulls-judged, no_hulls-judged, answer-judged, model_answer}
 use Rattle.model_bank.proofs.follower.judge.Goals as goal
 use Rattle.model_bank.proofs.follower.judge.Goals.{then-fits, else-fits}
 
-pub returns-clause-answer : goal.returns-clause-answer
-returns-clause-answer g c =
+pub returns-clause-taken : goal.returns-clause-taken
+returns-clause-taken g c =
     let p = c.args.plant.now in
     let s = sample_of c.args.sample.now in
     let z = c.args.estimate.now.plain in
-    let after = c.judge-preds.new.self.plain in
-    let certificate = certificate_in c.judge-preds.result.outcome in
-    let due = c.judge-preds.ensures.outcome in
-    let fits = c.judge-preds.ensures.fits in
-    answer-judged p s z after certificate due fits c.args.index (was_widened c.args.kept) c.judge-preds.result.outs.items c.if-fits.hulls.items c.judge-preds.ensures.outs
-    (elim c.if-fits.branch [
-      | then-fits w ↦ hulls-judged p s z after certificate due fits c.if-fits.hulls.items (sym c.fits.ensures ∙ w.if-fits.true) (ap (λ v. v.items) w.hulls-is ∙ w.hulls-hulls.ensures.value)
-      | else-fits w ↦ no_hulls-judged p s z after certificate due fits c.if-fits.hulls.items (sym c.fits.ensures ∙ w.if-fits.false) (ap (λ v. v.items) w.hulls-is ∙ w.new-hulls.ensures)
-    ])
-
-pub returns-clause-set : goal.returns-clause-set
-returns-clause-set g c =
-    set-judged c.args.plant.now (sample_of c.args.sample.now) c.args.estimate.now.plain c.judge-preds.new.self.plain (certificate_in c.judge-preds.result.outcome) c.judge-preds.ensures.outcome c.judge-preds.ensures.fits
-    (λ some. ap (λ e. e.plain) (c.judge-preds.ensures.excluded some))
+    let after = c.judge_by.new.estimate.plain in
+    let certificate = claimed_on p s z c.args.claim in
+    let taken = c.in_ok-preds.ensures.taken in
+    let fits = c.fits.ensures ∙ ap is_none taken.certificate_is in
+    let hs : c.if-fits.hulls.items ≡ (if is_none certificate then hulls p (correct p s z) else []) =
+    elim c.if-fits.branch [
+      | then-fits w ↦ hulls-judged p s z after certificate taken.set_is c.if-fits.hulls.items (sym fits ∙ w.if-fits.true) (ap (λ v. v.items) w.hulls-is ∙ w.hulls-hulls.ensures.value)
+      | else-fits w ↦ no_hulls-judged p s z after certificate taken.set_is c.if-fits.hulls.items (sym fits ∙ w.if-fits.false) (ap (λ v. v.items) w.hulls-is ∙ w.new-hulls.ensures)
+    ] in
+    record {
+      seen_is = ap (λ o. model_answer c.args.index c.in_ok-preds.field-0.outs.items (was_widened c.args.kept) o c.if-fits.hulls.items) taken.certificate_is
+          ∙ answer-judged p s z after certificate taken.set_is c.args.index (was_widened c.args.kept) c.in_ok-preds.field-0.outs.items c.if-fits.hulls.items taken.outs_are hs;
+      justified = taken.justified;
+      set_is = taken.set_is;
+    }

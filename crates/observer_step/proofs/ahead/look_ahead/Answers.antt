@@ -1,4 +1,4 @@
-use Rattle.std.proofs.Common.{◌≡◌, ◌+◌, ◌<◌, List, ℤ, [], get_or, Some, None, true, not, SFits, to_z, of_z, to_z-of_z, sym, ap, ◌∙◌, subst, arith, rules}
+use Rattle.std.proofs.Common.{◌≡◌, ◌+◌, List, ℤ, [], get_or, Some, not, SFits, to_z-of_z, sym, ap, ◌∙◌, subst, arith, rules}
 use Rattle.std.specs.List.{list_all}
 use mir.Syntax.{w128}
 use Rattle.fixed_mat.proofs.Columns.{pushes}

@@ -1,7 +1,5 @@
-use Rattle.std.proofs.Common.{◌≡◌, ◌≤◌, ◌^◌, List, [], ◌∷◌, ◌++◌, true, ◌&&◌, ℤ, unsigned_abs, ap, ◌∙◌, arith}
+use Rattle.std.proofs.Common.{[], ap, ◌∙◌}
 use Rattle.std.specs.List.{list_all}
-use Rattle.std.proofs.lemmas.Bool.Decides.{nat_tests}
-use Rattle.std.proofs.lemmas.List.Folds.{list_all-append}
 use Rattle.fixed_mat.proofs.Columns.{pushes}
 use Rattle.observer_step.specs.Seen.{is_printable_interval}
 use Rattle.observer_step.proofs.Intervals.{printable-more, printable-ends}

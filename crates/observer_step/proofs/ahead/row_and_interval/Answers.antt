@@ -1,11 +1,9 @@
-use Rattle.std.proofs.Common.{◌≡◌, ap, ◌∙◌, arith, to_z, of_z, SFits, to_z-of_z}
-use Rattle.std.proofs.lemmas.Int.{ints}
+use Rattle.std.proofs.Common.{◌≡◌, ◌∙◌, arith, to_z, of_z, to_z-of_z}
 use mir.Syntax.{w128}
 use Rattle.fixed_mat.proofs.Bits.{back}
 use Rattle.set_rules.specs.Rows.{Row}
 use Rattle.plant_model.specs.Plant.{Present}
 use Rattle.observer_step.specs.Estimate.{row_of}
-use Rattle.observer_step.specs.Predicted.{out_of}
 use Rattle.observer_step.proofs.Intervals.{interval_in, interval-of_row}
 use Rattle.observer_step.proofs.ahead.row_and_interval.Given.{Over}
 use Rattle.observer_step.proofs.ahead.row_and_interval.Goals as goal

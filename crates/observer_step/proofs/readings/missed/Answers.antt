@@ -15,7 +15,7 @@ loop-o-preserved c =
     let test : ℕ → Bool = λ o. reading_misses (slice_index_or c.args.outs.now o (pos 0, pos 0)) (known (slice_index_or c.args.readings.now o Missing)) in
     first_below-more test c.loop-o.o c.loop-o.invariant (sym c.misses.ensures ∙ c.if-misses.false)
 
-pub returns-then-misses-clause-value : goal.returns-then-misses-clause-value
-returns-then-misses-clause-value c =
+pub returns-then-misses : goal.returns-then-misses
+returns-then-misses c =
     let test : ℕ → Bool = λ o. reading_misses (slice_index_or c.args.outs.now o (pos 0, pos 0)) (known (slice_index_or c.args.readings.now o Missing)) in
     sym (first_below-found test (length c.args.outs.now) c.loop-o.o c.loop-o-test.true c.loop-o.invariant (sym c.misses.ensures ∙ c.if-misses.true))

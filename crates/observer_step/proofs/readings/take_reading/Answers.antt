@@ -1,4 +1,4 @@
-use Rattle.std.proofs.Common.{◌≡◌, ◌+◌, ◌≤◌, length, get_or, Some, unsigned_abs, SFits, to_z-of_z, rules, sym, ap, ◌∙◌, arith, subst}
+use Rattle.std.proofs.Common.{◌≡◌, ◌≤◌, length, get_or, unsigned_abs, SFits, to_z-of_z, rules, sym, ap, ◌∙◌, arith, subst}
 use mir.Syntax.{w128}
 use Rattle.set_rules.specs.Rows.{Row}
 use Rattle.fixed_mat.specs.declared.reading.Reading.TheVariants.{Missing, Value}

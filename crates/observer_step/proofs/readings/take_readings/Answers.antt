@@ -1,9 +1,8 @@
-use Rattle.std.proofs.Common.{◌≡◌, ◌+◌, ◌<◌, ◌≤◌, length, unsigned_abs, sym, ap, ◌∙◌, arith, subst, refl, List, ℤ}
+use Rattle.std.proofs.Common.{◌≤◌, length, unsigned_abs, sym, ap, ◌∙◌, arith, subst}
 use Rattle.set_rules.specs.Rows.{Row}
 use Rattle.fixed_mat.proofs.Bits.{back}
 use Rattle.plant_model.specs.Seen.{sample_of}
-use Rattle.observer_step.specs.Ahead.{IsFirst, HasFirst, NoneBefore}
-use Rattle.observer_step.specs.Estimate.{correct, corrected_after}
+use Rattle.observer_step.specs.Ahead.{IsFirst, HasFirst}
 use Rattle.observer_step.proofs.CorrectionHolds.{length-strip}
 use Rattle.observer_step.proofs.Taken.{first-taken, none-taken, reading-taken, readings-taken}
 use Rattle.observer_step.proofs.readings.take_readings.Given.{Over}

@@ -1,38 +1,23 @@
-use Rattle.std.proofs.Common.{◌≡◌, length, Some, None, ℤ, List, option_map, arith, ap, sym, ◌∙◌}
+use Rattle.std.proofs.Common.{◌≡◌, ◌&&◌, true, is_none, option_map, ap, ◌∙◌}
 use Rattle.farkas_check.specs.Certificate.{by_out}
 use Rattle.plant_model.specs.Seen.{sample_of}
-use Rattle.observer_step.specs.Predicted.{predicted_outs, due}
-use Rattle.observer_step.specs.Estimate.{Estimate, correct}
+use Rattle.observer_step.specs.Predicted.{due}
+use Rattle.observer_step.specs.Estimate.{Estimate}
+use Rattle.observer_step.specs.Offers.{correct_if}
 use Rattle.observer_step.specs.Seen.{certificate_in}
-use Rattle.observer_step.proofs.Judged.{length-outs, certificate-found, judges}
-use Rattle.observer_step.proofs.est.Est.judge.Given.{Over}
+use Rattle.observer_step.proofs.Judged.{judges}
+use Rattle.observer_step.proofs.Offered.{fits-due}
 use Rattle.observer_step.proofs.est.Est.judge.Goals as goal
-use Rattle.observer_step.proofs.est.Est.judge.Goals.{After-deref, in-Some, in-None}
-
-outs-are : (g : Over) (c : After-deref g) → c.deref.result.now ≡ predicted_outs c.args.plant.now c.args.sample.now.u.items c.args.self.now.plain
-outs-are g c = c.deref.ensures.0 ∙ c.look_ahead-outs.ensures.value ∙ ap (λ (e : Estimate). predicted_outs c.args.plant.now c.args.sample.now.u.items e.plain) c.self.view_is
-
-pub missed-requires-clause-count : goal.missed-requires-clause-count
-missed-requires-clause-count g c =
-    ap length c.deref-2.ensures.0 ∙ c.requires.outputs
-    ∙ sym (length-outs c.args.plant.now c.args.sample.now.u.items c.args.self.now.plain c.deref.result.now (outs-are g (goal.at.missed-requires-clause-count g c).After-deref))
-
-pub returns-clause-outcome : goal.returns-clause-outcome
-returns-clause-outcome g c =
-    let outs = outs-are g (goal.at.returns-clause-outcome g c).After-deref in
-    elim c.match-missed.branch [
-      | in-Some w ↦ ap certificate_in w.outcome-is
-          ∙ certificate-found c.args.plant.now (sample_of c.args.sample.now) c.args.self.now.plain c.deref.result.now c.deref-2.result.now (Some w.in-Some.o) outs c.deref-2.ensures.0 (sym w.in-Some.is ∙ c.missed.ensures.value)
-      | in-None w ↦ ap certificate_in w.outcome-is
-          ∙ certificate-found c.args.plant.now (sample_of c.args.sample.now) c.args.self.now.plain c.deref.result.now c.deref-2.result.now None outs c.deref-2.ensures.0 (sym w.in-None.is ∙ c.missed.ensures.value)
-    ]
 
 pub returns-clause-stands : goal.returns-clause-stands
 returns-clause-stands g c =
     let p = c.args.plant.now in
     let s = sample_of c.args.sample.now in
-    judges p s c.args.self.now c.match-missed.self (certificate_in c.match-missed.outcome) (returns-clause-outcome g c)
-    (elim c.match-missed.branch [
-      | in-Some w ↦ λ none. absurd (let is = ap certificate_in w.outcome-is in cc)
-      | in-None w ↦ λ none. ap (λ (e : Estimate). e.plain) w.self-is ∙ w.take_readings.ensures.value ∙ ap (correct p s) (ap (λ (e : Estimate). e.plain) c.self.view_is)
-    ])
+    let z = c.args.self.now.plain in
+    let after = c.pass_over-outs.new.set in
+    let seen = ap (λ (e : Estimate). e.plain) c.self.view_is in
+    let is_due = c.pass_over-outs.ensures.due ∙ ap (due p s) seen in
+    let cert = c.outcome_due.ensures ∙ ap (option_map by_out) is_due in
+    let set : after ≡ correct_if (true && is_none (due p s z)) p s z =
+    c.pass_over-outs.ensures.set ∙ (λ i. correct_if (true && is_none (is_due i)) p s (seen i)) in
+    judges p s c.args.self.now (record { plain = after }) (certificate_in c.outcome_due.result) cert (fits-due p s z after (certificate_in c.outcome_due.result) cert set)

@@ -1,0 +1,93 @@
+-- What a bank makes of a sample is what the definitions say of it, where certificates are offered and where none are.
+use Rattle.std.proofs.Common.{◌≡◌, ℕ, ℤ, List, [], ◌∷◌, ◌++◌, length, map, Bool, true, Option, Some, None, IfSome, option_map, Result, Ok, Err, IsOk, OnOk, refl, sym, ap, ◌∙◌, subst}
+use Rattle.std.specs.List.{All}
+use Rattle.std.specs.Borrow.{Bor}
+use Rattle.std.proofs.lemmas.List.{length-map, map-append}
+use Rattle.std.proofs.lemmas.List.Elements.{All-nil, All-cons, All-head, All-tail, All-same}
+use Rattle.farkas_check.specs.Certificate.{Certificate, certificate_of}
+use Rattle.farkas_check.specs.declared.certificate.Cert.{Cert}
+use Rattle.plant_model.specs.Plant.{Plant, Sample}
+use Rattle.observer_step.specs.Answers.{zonotope_observer}
+use Rattle.model_bank.specs.Answers.{SampleAnswer, live_after}
+use Rattle.model_bank.specs.Bank.{Member, Bank, MemberStands, BankStands}
+use Rattle.model_bank.specs.Stepping.{dues, RecordsSample, StandsLonger, TakesOffers, Refusal, RefusesOffer, TakesAnyOffers, RefusesAnOffer}
+use Rattle.model_bank.specs.Steps.{due_of, bank_after}
+use Rattle.model_bank.specs.Offers.{claims_on, BankTakes, BankRefuses}
+use Rattle.model_bank.proofs.MemberStep.{justified-here, due-here, predicted-here}
+use Rattle.model_bank.proofs.BankStep.{knows, answers-are, allowed-are, bank-answers, bank-justifies, bank-stands, dues-answer, dues-live}
+use Rattle.model_bank.proofs.Taking.{claims-long}
+
+pub when-ok : {T E P : Type 0} (r : Result T E) → IsOk r → OnOk r P → P
+when-ok (Ok x) ok h = h
+when-ok (Err e) ok h = absurd cc
+
+module _ {A : Type 0} (P : A → Type 0) where
+  All-left : (xs ys : List A) → All P (xs ++ ys) → All P xs
+  All-left [] ys h = All-nil P
+  All-left (x ∷ xs) ys h = All-cons P x xs (All-head P x (xs ++ ys) h) (All-left xs ys (All-tail P x (xs ++ ys) h))
+
+  All-right : (xs ys : List A) → All P (xs ++ ys) → All P ys
+  All-right [] ys h = h
+  All-right (x ∷ xs) ys h = All-right xs ys (All-tail P x (xs ++ ys) h)
+
+module _ (s : Sample) (offered : Option (Bor (List (Option Cert)))) (b : Bank) (many : IfSome offered (λ offers. length offers.now ≡ length b.members)) (seen : SampleAnswer) (new : Bank) (takes : BankTakes s offered b seen new)
+    (plants : List Plant) (samples : List Sample) (lives : List Bool) (stands : BankStands plants samples lives b) where
+  -- what is claimed is what is said, and what the bank stands for
+  pub claims-stand : BankStands plants (samples ++ s ∷ []) (live_after lives (claims_on s b offered)) new
+  claims-stand =
+      subst (BankStands plants (samples ++ s ∷ []) (live_after lives (claims_on s b offered))) (sym takes.new_is)
+      (bank-stands plants samples lives s b stands (claims_on s b offered) (claims-long _ _ s b.members offered many))
+
+  pub claims-taken : TakesOffers s (claims_on s b offered) plants samples lives seen new
+  claims-taken = record {
+    justified = sym (bank-justifies plants samples lives s b stands (claims_on s b offered)) ∙ takes.justified;
+    answer = takes.seen_is ∙ bank-answers plants samples lives s b stands (claims_on s b offered);
+    stands = claims-stand;
+  }
+
+module _ (s : Sample) (b : Bank) (seen : SampleAnswer) (new : Bank) (takes : BankTakes s None b seen new) where
+  pub records : RecordsSample s b seen
+  records plants samples lives stands = takes.seen_is ∙ bank-answers plants samples lives s b stands (claims_on s b None) ∙ dues-answer plants samples lives s b stands
+
+  pub stands-longer : StandsLonger s b new
+  stands-longer plants samples lives stands =
+      subst (λ ls. BankStands plants (samples ++ s ∷ []) ls new) (dues-live plants samples lives s b stands) (claims-stand s None b tt seen new takes plants samples lives stands)
+
+-- the first model that refuses its offer
+module _ (s : Sample) (offered : Option (Bor (List (Option Cert)))) (b : Bank) (refusal : Refusal) (bank_refuses : BankRefuses s offered b refusal)
+    (plants : List Plant) (samples : List Sample) (lives : List Bool) (stands : BankStands plants samples lives b) where
+  standing : All (MemberStands samples) (bank_refuses.refuses.below ++ bank_refuses.refuses.member ∷ bank_refuses.refuses.above)
+  standing = All-same (MemberStands samples) (bank_refuses.refuses.below ++ bank_refuses.refuses.member ∷ bank_refuses.refuses.above) b.members (sym bank_refuses.refuses.members_are) stands.members_stand
+
+  stand_below : All (MemberStands samples) bank_refuses.refuses.below
+  stand_below = All-left (MemberStands samples) bank_refuses.refuses.below (bank_refuses.refuses.member ∷ bank_refuses.refuses.above) standing
+
+  stands_here : MemberStands samples bank_refuses.refuses.member
+  stands_here = All-head (MemberStands samples) bank_refuses.refuses.member bank_refuses.refuses.above (All-right (MemberStands samples) bank_refuses.refuses.below (bank_refuses.refuses.member ∷ bank_refuses.refuses.above) standing)
+
+  pub claims-refused : RefusesOffer s (claims_on s b offered) plants samples lives refusal
+  claims-refused =
+      let refuses = bank_refuses.refuses in
+      let ready = knows plants samples lives s b stands in
+      let plant_of : Member → Plant = λ m. m.plant in
+      let live_of : Member → Bool = λ m. m.live in
+      record {
+        plants_below = map plant_of refuses.below;
+        lives_below = map live_of refuses.below;
+        offers_below = refuses.claims_below;
+        plant = refuses.member.plant;
+        plants_above = map plant_of refuses.above;
+        lives_above = map live_of refuses.above;
+        offers_above = refuses.claims_above;
+        plants_are = sym stands.plants_are ∙ ap (map plant_of) refuses.members_are ∙ map-append plant_of refuses.below (refuses.member ∷ refuses.above);
+        lives_are = sym stands.lives_are ∙ ap (map live_of) refuses.members_are ∙ map-append live_of refuses.below (refuses.member ∷ refuses.above)
+            ∙ ap (λ l. map live_of refuses.below ++ l ∷ map live_of refuses.above) refuses.live;
+        offers_are = refuses.claims_are;
+        model_is = refuses.model_is ∙ sym (length-map refuses.below plant_of);
+        as_many_lives = length-map refuses.below live_of ∙ sym (length-map refuses.below plant_of);
+        justified_below = sym (allowed-are samples s _ b.last_inputs ready refuses.below refuses.claims_below stand_below) ∙ refuses.justified_below;
+        not_justified = sym (justified-here samples s _ b.last_inputs ready refuses.member stands_here refuses.live refusal.offered) ∙ refuses.not_justified;
+        due_is = refuses.due_is ∙ due-here samples s _ b.last_inputs ready refuses.member stands_here refuses.live;
+        before_are = refuses.before_are ∙ answers-are samples s _ b.last_inputs ready 0 refuses.below refuses.claims_below stand_below;
+        predicted_are = refuses.predicted_are ∙ predicted-here samples s _ b.last_inputs ready refuses.member stands_here refuses.live;
+      }

@@ -1,0 +1,51 @@
+//! A certificate, or none, that is offered for a sample.
+
+ghost use Rattle.std.specs.Prelude.{◌≡◌, option_map};
+ghost use Rattle.farkas_check.specs.Certificate.{by_out, certificate_of};
+ghost use Rattle.observer_step.specs.Answers.{is_justified, refutes_none};
+ghost use Rattle.observer_step.specs.Offers.{offers_output};
+ghost use Rattle.observer_step.specs.Seen.{certificate_in};
+
+use crate::Outcome;
+use farkas_check::Cert;
+
+/// Whether what is offered is justified where this output is due, or none. No rows are kept, so no multipliers are.
+pub fn is_justified(due: Option<u32>, offered: &Option<Cert>) -> bool
+    ensures { result ≡ is_justified due refutes_none (option_map certificate_of offered.now) }
+{
+    match (due, offered) {
+        (None, None) => true,
+        (Some(o), Some(Cert::Out(p))) => *p == o,
+        _ => false,
+    }
+}
+
+/// Whether an output is offered.
+pub fn offers_output(offered: &Option<Cert>) -> bool
+    ensures { result ≡ offers_output (option_map certificate_of offered.now) }
+{
+    match offered {
+        Some(Cert::Out(_)) => true,
+        Some(Cert::Rows(_)) | None => false,
+    }
+}
+
+/// The outcome by this certificate, or by none.
+pub fn outcome_by(cert: Option<Cert>) -> Outcome
+    ensures { certificate_in result ≡ option_map certificate_of cert }
+{
+    match cert {
+        Some(cert) => Outcome::Excluded(cert),
+        None => Outcome::Fits,
+    }
+}
+
+/// The outcome where this output is due, or none.
+pub fn outcome_due(due: Option<u32>) -> Outcome
+    ensures { certificate_in result ≡ option_map by_out due }
+{
+    match due {
+        Some(o) => Outcome::Excluded(Cert::Out(o)),
+        None => Outcome::Fits,
+    }
+}
