@@ -202,3 +202,15 @@ fronts-differ l l' rest rest' h h' e =
     let put = sym (append_assoc (line_text l) (10 ∷ []) rest) ∙ (e ∙ append_assoc (line_text l') (10 ∷ []) rest') in
     let same = same_fronts (line_text l) (line_text l') rest rest' (line_is_text l h).bytes (line_is_text l' h').bytes put in
     (lines-differ l l' h h' same.0, same.1)
+
+certificate_in_range : (i : ℕ) (c : Certificate) → is_model_index i ≡ true → is_certificate c ≡ true → is_in_range (exclude i c) ≡ true
+certificate_in_range i c h k = rw (h, k) refl
+
+same_certificate : (i : ℕ) (c c' : Certificate) → exclude i c ≡ exclude i c' → c ≡ c'
+same_certificate i c c' e = cc
+
+pub exclusions-differ : (i : ℕ) (c c' : Certificate) (rest rest' : List ℕ) → is_model_index i ≡ true → is_certificate c ≡ true → is_certificate c' ≡ true
+    → put_text (exclude i c) ++ rest ≡ put_text (exclude i c') ++ rest' → (c ≡ c') × (rest ≡ rest')
+exclusions-differ i c c' rest rest' h k k' e =
+    let same = fronts-differ (exclude i c) (exclude i c') rest rest' (certificate_in_range i c h k) (certificate_in_range i c' h k') e in
+    (same_certificate i c c' same.0, same.1)

@@ -1,8 +1,9 @@
 -- The laws of the lines that are in range.
 use Rattle.std.specs.Prelude.{◌≡◌, ◌≤◌, ℕ, true, false, ◌==◌, Bool, List, ◌++◌, length}
 use Rattle.std.specs.List.{list_any}
-use Rattle.report_text.specs.Line.{Line, line_text, put_text}
-use Rattle.report_text.specs.Ranges.{is_in_range}
+use Rattle.farkas_check.specs.Certificate.{Certificate}
+use Rattle.report_text.specs.Line.{Line, exclude, line_text, put_text}
+use Rattle.report_text.specs.Ranges.{is_in_range, is_model_index, is_certificate}
 
 abbrev pub is_feed : ℕ → Bool
 is_feed c = c == 10
@@ -21,3 +22,9 @@ LinesHaveNoFeed = (l : Line) → is_in_range l ≡ true → list_any is_feed (li
 abbrev pub FrontsDiffer : Type 0
 FrontsDiffer = (l l' : Line) (rest rest' : List ℕ) → is_in_range l ≡ true → is_in_range l' ≡ true
     → put_text l ++ rest ≡ put_text l' ++ rest' → (l ≡ l') × (rest ≡ rest')
+
+-- the same of two certificates for the exclusion of one model
+abbrev pub ExclusionsDiffer : Type 0
+ExclusionsDiffer = (i : ℕ) (c c' : Certificate) (rest rest' : List ℕ)
+    → is_model_index i ≡ true → is_certificate c ≡ true → is_certificate c' ≡ true
+    → put_text (exclude i c) ++ rest ≡ put_text (exclude i c') ++ rest' → (c ≡ c') × (rest ≡ rest')

@@ -1,7 +1,7 @@
 //! The lines of a report, as text.
 #![tactic(auto)]
 
-ghost use Rattle.report_text.specs.Laws.{LinesDiffer, FrontsDiffer, LinesAreShort, LinesHaveNoFeed};
+ghost use Rattle.report_text.specs.Laws.{LinesDiffer, FrontsDiffer, ExclusionsDiffer, LinesAreShort, LinesHaveNoFeed};
 
 mod guess;
 mod line;
@@ -19,6 +19,7 @@ pub use write::{push_line, write_line};
 pub fn laws()
     ensures lines { LinesDiffer }
     ensures fronts { FrontsDiffer }
+    ensures exclusions { ExclusionsDiffer }
     ensures short { LinesAreShort }
     ensures no_feed { LinesHaveNoFeed }
 {}
