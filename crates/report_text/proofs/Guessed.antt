@@ -1,5 +1,5 @@
 -- The one line that the text of a line can be is that line.
-use Rattle.std.proofs.Common.{◌≡◌, ℕ, ◌+◌, ◌^◌, ◌<◌, ◌≤◌, ℤ, Bool, true, false, ◌&&◌, List, [], ◌∷◌, ◌++◌, length, refl, sym, ◌∙◌, ap, arith, append_assoc, codes}
+use Rattle.std.proofs.Common.{◌≡◌, ℕ, ◌+◌, ◌^◌, ◌<◌, ◌≤◌, ℤ, Bool, true, false, ◌&&◌, List, [], ◌∷◌, ◌++◌, length, refl, sym, ◌∙◌, ap, subst, arith, append_assoc, codes}
 use Rattle.std.specs.Prelude.{decimal, flat_map, unsigned_abs, nat_lt, nat_le}
 use Rattle.std.specs.Fmt.{signed_decimal}
 use Rattle.std.specs.List.{list_all}
@@ -12,7 +12,7 @@ use Rattle.isolate_core.specs.declared.verdict.Verdict.{Verdict as Judgement}
 use Rattle.isolate_core.specs.declared.verdict.Verdict.TheVariants as judged
 use Rattle.report_text.specs.Line.{Line, title, model, sample, pred, exclude, hull, status, possible, verdict, end, line_text, number_word, multiplier_word, interval_text, is_printable}
 use Rattle.report_text.specs.Names.{is_model_name}
-use Rattle.report_text.specs.Ranges.{is_in_range, is_model_index, is_output_index, is_state_index, is_interval, is_certificate, rise_from, is_verdict}
+use Rattle.report_text.specs.Ranges.{IsLine, is_in_range, is_model_index, is_output_index, is_state_index, is_interval, is_certificate, rise_from, is_verdict}
 use Rattle.report_text.specs.Loose.{word_of, rest_of, index_of, count_of, multiplier_of, end_of, name_of, certificate_in, verdict_in, model_in, pred_in, hull_in, exclude_in, status_in, possible_in, first_in, second_in, low_in, high_in, line_by, candidate}
 use Rattle.report_text.proofs.Cuts.{is_word, word_before, rest_behind, word_alone, rest_none, words_none, values_back}
 use Rattle.report_text.proofs.Values.{decimal_word, count_back, index_back, index_written, multiplier_written, printed_word, end_back, printable}
@@ -221,3 +221,9 @@ candidate_back (end k) h = begun (codes "end") (decimal k) refl ∙ by_end (deci
 -- one text is one line
 pub lines-differ : (l l' : Line) → is_in_range l ≡ true → is_in_range l' ≡ true → line_text l ≡ line_text l' → l ≡ l'
 lines-differ l l' h h' e = sym (candidate_back l h) ∙ (ap candidate e ∙ candidate_back l' h')
+
+-- a text that is not the one line that it can be is no line
+pub refused-no_line : (text : List ℕ) (guess l : Line) → guess ≡ candidate text → ¬ IsLine text guess → ¬ IsLine text l
+refused-no_line text guess l e refused h =
+    let same : guess ≡ l = e ∙ (ap candidate h.spelled ∙ candidate_back l h.in_range) in
+    refused (subst (IsLine text) (sym same) h)
