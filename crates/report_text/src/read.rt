@@ -1,5 +1,5 @@
 //! A text as the line of a report that it is.
-ghost use Rattle.std.specs.Prelude.{◌≡◌, ◌↔◌, ◌<◌, length, IfOk, IsTrue, true};
+ghost use Rattle.std.specs.Prelude.{◌≡◌, ◌↔◌, ◌<◌, length, IfOk, IfSome, IfNone, IsTrue, true};
 ghost use Rattle.report_text.specs.Line.{Line, line_text, has_printable_ends};
 ghost use Rattle.report_text.specs.Ranges.{is_in_range, IsLine};
 ghost use Rattle.report_text.specs.Seen.{line_of};
@@ -31,12 +31,16 @@ pub fn read_line(text: &[u8]) -> Result<RepLine, BadLine>
     if text.len() > MOST_BYTES {
         return Err(BadLine::TooLong);
     }
+    spelled_line(text).ok_or(BadLine::NoForm)
+}
+
+/// The line that the text spells.
+fn spelled_line(text: &[u8]) -> Option<RepLine>
+    ensures line { IfSome result (λ rep. IsLine text.now (line_of rep)) }
+    ensures none { IfNone result ((l : Line) → ¬ IsLine text.now l) }
+{
     let rep = candidate(text);
-    if is_line(text, &rep) {
-        Ok(rep)
-    } else {
-        Err(BadLine::NoForm)
-    }
+    if is_line(text, &rep) { Some(rep) } else { None }
 }
 
 /// Whether the text is this line.
