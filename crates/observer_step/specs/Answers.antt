@@ -1,9 +1,10 @@
 -- What the definitions say of one model at a sample.
-use Rattle.std.specs.Prelude.{◌≡◌, ℕ, ◌==◌, ℤ, Bool, true, false, is_none, List, [], ◌∷◌, ◌++◌, length, Option, None, Some}
+use Rattle.std.specs.Prelude.{◌≡◌, ℕ, ◌==◌, ℤ, Bool, true, false, ◌&&◌, is_none, List, [], ◌∷◌, ◌++◌, length, Option, None, Some}
 use Rattle.std.specs.Prelude.{option_map, if◌then◌else◌}
 use Rattle.std.specs.Ordering.{int_eq}
 use lib.Pointwise.{pointwise}
 use Rattle.farkas_check.specs.Certificate.{Certificate, by_out, by_rows}
+use Rattle.farkas_check.specs.Multipliers.{are_multipliers}
 use Rattle.set_rules.specs.Zono.{Zono}
 use Rattle.plant_model.specs.Plant.{Plant, Sample, sample_at}
 use Rattle.observer_step.specs.Predicted.{predicted_outs, hulls, due}
@@ -53,7 +54,7 @@ is_justified (Some o) refutes (Some (by_out p)) = p == o
 is_justified (Some o) refutes (Some (by_rows ls)) = false
 is_justified (Some o) refutes None = false
 is_justified None refutes (Some (by_out p)) = false
-is_justified None refutes (Some (by_rows ls)) = refutes ls
+is_justified None refutes (Some (by_rows ls)) = refutes ls && are_multipliers ls
 is_justified None refutes None = true
 
 -- the choice of `run`: where no output is due and a candidate refutes, the first that does

@@ -4,6 +4,7 @@ use Rattle.std.specs.Cmp.Rules.{signed_items}
 use Rattle.std.proofs.lemmas.Bool.Decides.{nat_tests}
 use Rattle.std.proofs.lemmas.List.{length-map, length-replicate}
 use Rattle.farkas_check.specs.Certificate.{Certificate, by_out, by_rows}
+use Rattle.farkas_check.specs.Multipliers.{are_multipliers}
 use Rattle.plant_model.specs.Plant.{Plant, Sample}
 use Rattle.observer_step.specs.Answers.{Observer, zonotope_observer, due_at, certificate_at, is_justified, is_chosen, any_justified, as_run_chooses, allows_at}
 use Rattle.model_bank.specs.Answers.{all_allowed, certificates_at, live_after}
@@ -14,13 +15,13 @@ use Rattle.report_rules.specs.Laws.{RunIsAccepted, DueIsChosen, ZonotopeRefutes}
 
 -- ---- what `run` chooses is justified
 
-chosen-justified : (due : Option ℕ) (refutes : List ℤ → Bool) (first : Option (List ℤ)) (c : Option Certificate) → ((ls : List ℤ) → first ≡ Some ls → refutes ls ≡ true)
+chosen-justified : (due : Option ℕ) (refutes : List ℤ → Bool) (first : Option (List ℤ)) (c : Option Certificate) → ((ls : List ℤ) → first ≡ Some ls → refutes ls && are_multipliers ls ≡ true)
     → is_chosen due refutes first c ≡ true → is_justified due refutes c ≡ true
 chosen-justified (Some o) refutes first c good h = h
 chosen-justified None refutes None c good h = h
 chosen-justified None refutes (Some l) None good h = refl
 chosen-justified None refutes (Some l) (Some (by_out p)) good h = h
-chosen-justified None refutes (Some l) (Some (by_rows ls)) good h = ap refutes ((signed_items ls l).0 h) ∙ good l refl
+chosen-justified None refutes (Some l) (Some (by_rows ls)) good h = ap (λ ms. refutes ms && are_multipliers ms) ((signed_items ls l).0 h) ∙ good l refl
 
 module _ (o : Observer) (good : CandidatesRefute o) where
   all-justified : (ps : List Plant) (lives : List Bool) (cs : List (Option Certificate)) (samples : List Sample) (k : ℕ)

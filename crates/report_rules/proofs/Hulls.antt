@@ -4,6 +4,7 @@ use Rattle.std.specs.List.{enumerate_from}
 use Rattle.set_rules.specs.Box.{hull as hull_of, IsBetween}
 use Rattle.set_rules.proofs.ImageSets.{length-tabulate, get_or-tabulate}
 use Rattle.farkas_check.specs.Certificate.{Certificate, by_out, by_rows}
+use Rattle.farkas_check.specs.Multipliers.{are_multipliers}
 use Rattle.plant_model.specs.Plant.{Plant, Sample, Consistent}
 use Rattle.observer_step.specs.Predicted.{hulls}
 use Rattle.observer_step.specs.Answers.{Answer, Observer, answer_with, due_at, is_justified, any_justified, allows_at}
@@ -15,6 +16,10 @@ use Rattle.report_rules.specs.Lines.{head_lines, pred_lines, hull_lines, outcome
 use Rattle.report_rules.specs.Claims.{HullsHold, ExclusionsHold, HoldsEvery, IsSoundBefore, plant_at, no_plant}
 use Rattle.report_rules.specs.Report.{Watch, Choice, lives_before, samples_lines, report, IsReport}
 use Rattle.report_rules.specs.Laws.{HullsAreSound, ExclusionsAreSound, ZonotopeIsSound}
+
+first-true : (a b : Bool) → a && b ≡ true → a ≡ true
+first-true true b h = refl
+first-true false b h = h
 
 module _ (o : Observer) (plant : ℕ → Plant) (samples : List Sample) (n : ℕ) (sound : IsSoundBefore o samples n) where
   -- both claims on lines that speak of sample k
@@ -54,7 +59,7 @@ module _ (o : Observer) (plant : ℕ → Plant) (samples : List Sample) (n : ℕ
         by : (output : Option ℕ) (cert : Certificate) → due_at o (plant i) samples k ≡ output → is_justified output (o.refutes (plant i) samples k) (Some cert) ≡ true → ¬ Consistent (plant i) samples k
         by (Some output) cert e allowed = sound.due_has_none (plant i) k before output e
         by None (by_out other) e allowed = absurd cc
-        by None (by_rows ls) e allowed = sound.refuted_has_none (plant i) k before ls allowed
+        by None (by_rows ls) e allowed = sound.refuted_has_none (plant i) k before ls (first-true (o.refutes (plant i) samples k ls) (are_multipliers ls) allowed)
 
     past-outcome : (c : Option Certificate) (ys : List Line) → allows_at any_justified o (plant i) samples k c ≡ true → Holds k ys → Holds k (outcome_lines i c (answer c).hulls (answer c).is_widened ++ ys)
     past-outcome (Some cert) ys allowed h = record { hulls = h.hulls; exclusions = (excluded-has_none cert allowed, h.exclusions) }

@@ -1,11 +1,12 @@
 -- What the lines of a report claim. The lines after `sample k`, up to the next such line, speak of sample k; `plant i` is model i.
-use Rattle.std.specs.Prelude.{◌≡◌, ℕ, ◌<◌, ℤ, true, List, [], ◌∷◌, Option, Some, None, if◌then◌else◌, slice_index_or}
+use Rattle.std.specs.Prelude.{◌≡◌, ℕ, ◌<◌, ℤ, true, ◌&&◌, List, [], ◌∷◌, Option, Some, None, if◌then◌else◌, slice_index_or}
 use Rattle.set_rules.specs.Columns.{at}
 use Rattle.set_rules.specs.Box.{IsBetween, hull as hull_of}
 use Rattle.plant_model.specs.Plant.{Plant, Sample, sample_at, reading_at, Trajectory, states_at, Obeys, Consistent}
 use Rattle.observer_step.specs.Predicted.{reading_misses}
 use Rattle.observer_step.specs.Answers.{Observer, due_at}
 use Rattle.farkas_check.specs.Certificate.{by_out}
+use Rattle.farkas_check.specs.Multipliers.{are_multipliers}
 use Rattle.report_text.specs.Line.{Line, sample, pred, exclude, hull}
 
 -- a plant of no state, past the last
@@ -68,6 +69,7 @@ pub record IsSoundBefore (o : Observer) (samples : List Sample) (n : ℕ) : Type
   pub due_has_none : (p : Plant) (k : ℕ) → k < n → (output : ℕ) → due_at o p samples k ≡ Some output → ¬ Consistent p samples k
   pub refuted_has_none : (p : Plant) (k : ℕ) → k < n → (ls : List ℤ) → o.refutes p samples k ls ≡ true → ¬ Consistent p samples k
 
--- each candidate refutes the kept rows
+-- each candidate is a list of multipliers that refutes the kept rows
 abbrev pub CandidatesRefute : Observer → Type 0
-CandidatesRefute o = (p : Plant) (samples : List Sample) (k : ℕ) (ls : List ℤ) → o.candidate p samples k ≡ Some ls → o.refutes p samples k ls ≡ true
+CandidatesRefute o = (p : Plant) (samples : List Sample) (k : ℕ) (ls : List ℤ) → o.candidate p samples k ≡ Some ls
+    → o.refutes p samples k ls && are_multipliers ls ≡ true
