@@ -1,4 +1,3 @@
 pub mod Reports
-pub mod Put
 pub mod Outcome
 pub mod Rows

@@ -2,7 +2,6 @@
 #![tactic(auto)]
 
 mod done;
-mod lines;
 mod reporting;
 
 pub use done::{Done, RunFault};

@@ -16,12 +16,12 @@ ghost use Rattle.monitor_run.specs.Outcome.{AsksInOrder, IfRead, ReadsFailed, Ha
 ghost use Rattle.monitor_run.specs.Rows.{rows_lines, StandsDue, SaysOfRows, EndsRun, PutsLast};
 
 use crate::done::{Done, RunFault};
-use crate::lines::{put_end, put_head, put_sample};
 use input_files::{MOST_TELEMETRY, TELEMETRY_SLOT, find_header, next_row, read_model};
 use input_files::{Stream, StreamFault};
 use model_bank::{Bank, SampleRec};
 use model_file::Bank0;
 use outside_io::{Shelf, Sink};
+use report_put::{put_end, put_head, put_sample};
 use std::alloc::Global;
 use telem_csv::Header;
 

@@ -4,8 +4,8 @@ use Rattle.observer_step.specs.declared.outcome.Outcome.{Outcome}
 use Rattle.observer_step.specs.declared.outcome.Outcome.TheVariants.{Fits}
 use Rattle.report_text.specs.Line.{status}
 use Rattle.report_rules.specs.Lines.{hull_lines, outcome_lines}
-use Rattle.monitor_run.proofs.Put.{has-put, puts-last}
-use Rattle.monitor_run.proofs.lines.put_outcome.Goals as goal
+use Rattle.report_put.proofs.Put.{has-put, puts-last}
+use Rattle.report_put.proofs.lines.put_outcome.Goals as goal
 
 fits-lines : (i : ℕ) (o : Outcome) (hs put : List (ℤ × ℤ)) (w : Bool) → o ≡ Fits → put ≡ hs → outcome_lines i (certificate_in o) hs w ≡ hull_lines i put ++ status i (not w) ∷ []
 fits-lines i o hs put w e same = ap (λ (o : Outcome). outcome_lines i (certificate_in o) hs w) e ∙ ap (λ hs. hull_lines i hs ++ status i (not w) ∷ []) (sym same)

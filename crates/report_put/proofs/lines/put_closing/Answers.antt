@@ -3,8 +3,8 @@ use Rattle.isolate_core.specs.Verdict.{possible_models}
 use Rattle.isolate_core.specs.declared.verdict.Verdict.{Verdict}
 use Rattle.std.proofs.lemmas.Result.{err_from_is_err_and}
 use Rattle.report_text.specs.Line.{possible, verdict}
-use Rattle.monitor_run.proofs.Put.{has-put, cut-first, puts-last}
-use Rattle.monitor_run.proofs.lines.put_closing.Goals as goal
+use Rattle.report_put.proofs.Put.{has-put, cut-first, puts-last}
+use Rattle.report_put.proofs.lines.put_closing.Goals as goal
 
 closing : (bs seen : List Bool) (put : List ℕ) (v : Verdict) → seen ≡ bs → put ≡ possible_models seen → (possible (possible_models bs) ∷ verdict v ∷ []) ≡ (possible put ∷ []) ++ verdict v ∷ []
 closing bs seen put v same is = ap (λ is. possible is ∷ verdict v ∷ []) (sym (is ∙ ap possible_models same))

@@ -1,15 +1,15 @@
 //! Puts the lines of a report, one by one.
-ghost use Rattle.std.specs.Prelude.{◌≡◌, ◌≤◌, true, [], ◌∷◌, length, map, flat_map, not};
+ghost use Rattle.std.specs.Prelude.{◌≡◌, ◌≤◌, true, [], ◌∷◌, ◌++◌, length, map, flat_map, not};
 ghost use Rattle.std.specs.List.{list_all};
 ghost use Rattle.farkas_check.specs.Certificate.{certificate_of};
 ghost use Rattle.isolate_core.specs.Verdict.{possible_models};
 ghost use Rattle.observer_step.specs.Seen.{is_printable_interval, was_widened};
 ghost use Rattle.model_bank.specs.Bank.{names_in};
 ghost use Rattle.model_bank.specs.Seen.{model_seen, sample_seen};
-ghost use Rattle.report_text.specs.Line.{has_printable_ends, model, pred, exclude, hull, status, possible, verdict, end};
+ghost use Rattle.report_text.specs.Line.{has_printable_ends, sample, model, pred, exclude, hull, status, possible, verdict, end};
 ghost use Rattle.report_text.specs.Seen.{line_of};
 ghost use Rattle.report_rules.specs.Lines.{head_lines, sample_lines, model_lines, pred_lines, hull_lines};
-ghost use Rattle.monitor_run.specs.Put.{PutsLines, model_outcome};
+ghost use Rattle.report_put.specs.Put.{PutsLines, model_outcome};
 
 use arrayvec::{ArrayString, ArrayVec};
 use dec_text::Line;
@@ -38,6 +38,25 @@ pub fn put_sample<O: Sink>(out: &mut O, rec: &SampleRec) -> Result<(), PutFault>
     put_line(out, &RepLine::Sample { k: rec.k })?;
     put_models(out, &rec.models)?;
     put_closing(out, rec)
+}
+
+/// Puts the lines of sample `k` up to the predictions of a model that is refused, behind those of the live models below it;
+/// or on a fault a front of them.
+pub fn put_refused<O: Sink>(
+    out: &mut O,
+    k: u64,
+    below: &[ModelRec],
+    model: u32,
+    preds: &[(i128, i128)],
+) -> Result<(), PutFault>
+    requires few { length preds.now ≤ 6 }
+    requires printable { list_all is_printable_interval preds.now ≡ true }
+    ensures { PutsLines (sample k ∷ flat_map model_lines (map model_seen below.now) ++ pred_lines model preds.now)
+        (O.state out.old) result (O.state out.new) }
+{
+    put_line(out, &RepLine::Sample { k })?;
+    put_models(out, below)?;
+    put_preds(out, model, preds)
 }
 
 /// Puts the last line, the number of samples, or on a fault a front of it.

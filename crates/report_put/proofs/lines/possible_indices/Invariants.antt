@@ -1,7 +1,7 @@
 use Rattle.std.proofs.Common.{◌≡◌, ◌≤◌, take}
 use Rattle.arrayvec.specs.ArrayVec.{array_vec_len}
 use Rattle.isolate_core.specs.Verdict.{possible_models}
-use Rattle.monitor_run.proofs.lines.possible_indices.Given as goal
+use Rattle.report_put.proofs.lines.possible_indices.Given as goal
 
 abbrev pub invariant-loop-i : goal.invariant-loop-i
 invariant-loop-i l = record {

@@ -3,8 +3,8 @@ use Rattle.model_bank.specs.Answers.{ModelAnswer}
 use Rattle.model_bank.specs.Seen.{model_seen}
 use Rattle.std.proofs.lemmas.Result.{err_from_is_err_and}
 use Rattle.report_rules.specs.Lines.{model_lines, pred_lines, outcome_lines}
-use Rattle.monitor_run.proofs.Put.{has-put, cut-first, puts-last}
-use Rattle.monitor_run.proofs.lines.put_model.Goals as goal
+use Rattle.report_put.proofs.Put.{has-put, cut-first, puts-last}
+use Rattle.report_put.proofs.lines.put_model.Goals as goal
 
 parts : (m : ModelAnswer) (put : List (ℤ × ℤ)) → put ≡ m.answer.predicted
     → model_lines m ≡ pred_lines m.index put ++ outcome_lines m.index m.answer.certificate m.answer.hulls m.answer.is_widened

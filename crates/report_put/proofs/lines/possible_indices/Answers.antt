@@ -2,8 +2,8 @@ use Rattle.std.proofs.Common.{◌∙◌, ap, sym, arith, ◌++◌, ◌∷◌, []
 use Rattle.arrayvec.specs.ArrayVec.{array_vec_len}
 use Rattle.isolate_core.specs.Verdict.{possible_models}
 use Rattle.isolate_core.proofs.Judged.{models-more}
-use Rattle.monitor_run.proofs.lines.possible_indices.Goals.{then-is_possible, else-is_possible}
-use Rattle.monitor_run.proofs.lines.possible_indices.Goals as goal
+use Rattle.report_put.proofs.lines.possible_indices.Goals.{then-is_possible, else-is_possible}
+use Rattle.report_put.proofs.lines.possible_indices.Goals as goal
 
 pub loop-i-preserved : goal.loop-i-preserved
 loop-i-preserved c =

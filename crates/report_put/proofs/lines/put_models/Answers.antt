@@ -2,8 +2,8 @@ use Rattle.std.proofs.Common.{◌+◌, take, map, flat_map}
 use Rattle.std.proofs.lemmas.Result.{err_from_is_err_and}
 use Rattle.report_rules.specs.Lines.{model_lines}
 use Rattle.model_bank.specs.Seen.{model_seen}
-use Rattle.monitor_run.proofs.Put.{has-more, cut-turn, each-more, each-rest}
-use Rattle.monitor_run.proofs.lines.put_models.Goals as goal
+use Rattle.report_put.proofs.Put.{has-more, cut-turn, each-more, each-rest}
+use Rattle.report_put.proofs.lines.put_models.Goals as goal
 
 pub loop-model-preserved : goal.loop-model-preserved
 loop-model-preserved g c =

@@ -7,8 +7,8 @@ use Rattle.report_text.specs.Line.{title, model}
 use Rattle.report_rules.specs.Lines.{head_lines}
 use Rattle.model_file.specs.Bank.{Named, Models, no_model}
 use Rattle.model_bank.specs.Bank.{names_in}
-use Rattle.monitor_run.proofs.Put.{has-more, cut-first, cut-turn, numbered-more, numbered-rest}
-use Rattle.monitor_run.proofs.lines.put_head.Goals as goal
+use Rattle.report_put.proofs.Put.{has-more, cut-first, cut-turn, numbered-more, numbered-rest}
+use Rattle.report_put.proofs.lines.put_head.Goals as goal
 
 module _ (m : Models) (i : ℕ) (name : List ℕ) (h : i < length m.models) (is : name ≡ (get_or m.models i no_model).name) where
   named : name ≡ get_or (names_in m) i []

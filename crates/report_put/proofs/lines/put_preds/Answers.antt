@@ -2,8 +2,8 @@ use Rattle.std.proofs.Common.{◌+◌, pos, take}
 use Rattle.std.proofs.lemmas.Result.{err_from_is_err_and}
 use Rattle.report_text.specs.Line.{pred}
 use Rattle.report_rules.specs.Lines.{pred_lines}
-use Rattle.monitor_run.proofs.Put.{has-more, cut-turn, numbered-more, numbered-rest}
-use Rattle.monitor_run.proofs.lines.put_preds.Goals as goal
+use Rattle.report_put.proofs.Put.{has-more, cut-turn, numbered-more, numbered-rest}
+use Rattle.report_put.proofs.lines.put_preds.Goals as goal
 
 pub loop-o-preserved : goal.loop-o-preserved
 loop-o-preserved g c =

@@ -6,8 +6,8 @@ use Rattle.model_bank.specs.Seen.{model_seen, sample_seen}
 use Rattle.std.proofs.lemmas.Result.{err_from_is_err_and}
 use Rattle.report_text.specs.Line.{Line, sample, possible, verdict}
 use Rattle.report_rules.specs.Lines.{model_lines, sample_lines}
-use Rattle.monitor_run.proofs.Put.{has-put, has-more, cut-first, cut-turn, puts-last}
-use Rattle.monitor_run.proofs.lines.put_sample.Goals as goal
+use Rattle.report_put.proofs.Put.{has-put, has-more, cut-first, cut-turn, puts-last}
+use Rattle.report_put.proofs.lines.put_sample.Goals as goal
 
 -- the lines of the models
 abbrev models : List ModelRec → List Line

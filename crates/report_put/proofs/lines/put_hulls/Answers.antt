@@ -2,8 +2,8 @@ use Rattle.std.proofs.Common.{◌+◌, pos, take}
 use Rattle.std.proofs.lemmas.Result.{err_from_is_err_and}
 use Rattle.report_text.specs.Line.{hull}
 use Rattle.report_rules.specs.Lines.{hull_lines}
-use Rattle.monitor_run.proofs.Put.{has-more, cut-turn, numbered-more, numbered-rest}
-use Rattle.monitor_run.proofs.lines.put_hulls.Goals as goal
+use Rattle.report_put.proofs.Put.{has-more, cut-turn, numbered-more, numbered-rest}
+use Rattle.report_put.proofs.lines.put_hulls.Goals as goal
 
 pub loop-x-preserved : goal.loop-x-preserved
 loop-x-preserved g c =

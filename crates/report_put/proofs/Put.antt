@@ -8,7 +8,7 @@ use Rattle.outside_io.specs.Sink.{SinkState, Gains, GainsFront}
 use Rattle.outside_io.specs.declared.sink.PutFault.{PutFault}
 use Rattle.outside_io.proofs.Grows.{appends_more}
 use Rattle.outside_io.proofs.Fronts.{front-after, front-before, on-ok, on-err}
-use Rattle.monitor_run.specs.Put.{PutsLines}
+use Rattle.report_put.specs.Put.{PutsLines}
 use Rattle.report_text.specs.Line.{Line, put_text, lines_text}
 
 -- ---- numbered lists

@@ -1,8 +1,8 @@
 use Rattle.std.proofs.Common.{take, map, flat_map}
 use Rattle.report_rules.specs.Lines.{model_lines}
 use Rattle.model_bank.specs.Seen.{model_seen}
-use Rattle.monitor_run.proofs.Put.{HasPut}
-use Rattle.monitor_run.proofs.lines.put_models.Given as goal
+use Rattle.report_put.proofs.Put.{HasPut}
+use Rattle.report_put.proofs.lines.put_models.Given as goal
 
 abbrev pub invariant-loop-model : goal.invariant-loop-model
 invariant-loop-model g l = HasPut (flat_map model_lines (map model_seen (take l.model-index l.models))) (g.O.Sink.state l.fn.out) (g.O.Sink.state l.out)
