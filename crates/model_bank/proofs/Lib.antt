@@ -4,3 +4,4 @@ pub mod Judged
 pub mod Taking
 pub mod BankBegun
 pub mod Offered
+pub mod Later
