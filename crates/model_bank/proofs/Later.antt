@@ -1,4 +1,4 @@
--- What is due is allowed, and later samples change nothing of what is said of earlier ones.
+-- Later samples change nothing of what is said of earlier ones.
 use Rattle.std.proofs.Common.{◌≡◌, ℕ, zero, suc, ◌+◌, ◌<◌, ℤ, Bool, true, false, not, ◌&&◌, ◌||◌, is_none, List, [], ◌∷◌, ◌++◌, length, Option, None, option_map, if◌then◌else◌, refl, ap, ◌∙◌, arith}
 use Rattle.std.proofs.lemmas.List.{get_or_append_left}
 use Rattle.set_rules.specs.Zono.{Zono}
@@ -9,26 +9,7 @@ use Rattle.observer_step.specs.Predicted.{predicted_outs, hulls, due}
 use Rattle.observer_step.specs.Estimate.{leaves_range, correct, predicted_set, corrected_set, is_widened}
 use Rattle.observer_step.specs.Answers.{Answer, Rule, zonotope_observer, refutes_none, due_at, certificate_at, is_allowed, allows_at, answer_with}
 use Rattle.observer_step.proofs.ExclusionHolds.{later-nothing}
-use Rattle.observer_step.proofs.Offered.{due-allowed}
 use Rattle.model_bank.specs.Answers.{answer_if, answers_from, live_after, certificates_at, all_allowed, sample_answer}
-
--- ---- what is due is allowed
-
-pub dues-allowed : (rule : Rule) (ps : List Plant) (lives : List Bool) (samples : List Sample) (k : ℕ) → length lives ≡ length ps
-    → all_allowed rule zonotope_observer ps lives (certificates_at zonotope_observer ps samples k) samples k ≡ true
-dues-allowed rule [] [] samples k e = refl
-dues-allowed rule [] (live ∷ lives) samples k e = absurd cc
-dues-allowed rule (p ∷ ps) [] samples k e = absurd cc
-dues-allowed rule (p ∷ ps) (live ∷ lives) samples k e =
-    ap (λ b. (not live || b) && all_allowed rule zonotope_observer ps lives (certificates_at zonotope_observer ps samples k) samples k) (due-allowed rule (due_at zonotope_observer p samples k))
-    ∙ ap (λ b. b && all_allowed rule zonotope_observer ps lives (certificates_at zonotope_observer ps samples k) samples k) (by live)
-    ∙ dues-allowed rule ps lives samples k (omega arith)
-  where
-    by : (b : Bool) → (not b || true) ≡ true
-    by true = refl
-    by false = refl
-
--- ---- what comes later
 
 module _ (samples more : List Sample) where
   abbrev all : List Sample
