@@ -1,14 +1,14 @@
 -- What a sample makes of all members of a bank is what the definitions say of its plants.
-use Rattle.std.proofs.Common.{◌≡◌, ℕ, ◌+◌, ◌-◌, ℤ, List, [], ◌∷◌, ◌++◌, length, map, get_or, is_none, Option, if◌then◌else◌, Bool, true, false, not, ◌&&◌, ◌||◌, refl, sym, ap, ◌∙◌, arith, eqb}
+use Rattle.std.proofs.Common.{◌≡◌, ℕ, ◌+◌, ◌-◌, ℤ, List, [], ◌∷◌, ◌++◌, length, map, is_none, Option, if◌then◌else◌, Bool, true, false, not, ◌&&◌, ◌||◌, refl, sym, ap, ◌∙◌, arith, eqb}
 use Rattle.std.specs.List.{All}
 use Rattle.std.proofs.lemmas.List.{length_push, get_or_at}
 use Rattle.std.proofs.lemmas.List.Elements.{All-nil, All-cons, All-head, All-tail}
 use Rattle.farkas_check.specs.Certificate.{Certificate}
-use Rattle.plant_model.specs.Plant.{Plant, Sample, no_sample, sample_at, IsSample}
+use Rattle.plant_model.specs.Plant.{Plant, Sample, no_sample, sample_at}
 use Rattle.observer_step.specs.Answers.{zonotope_observer, answer_with, certificate_at, any_justified, allows_at}
 use Rattle.isolate_core.specs.Verdict.{verdict_of, possible_models}
 use Rattle.model_bank.specs.Answers.{ModelAnswer, SampleAnswer, answer_if, answers_from, live_after, certificates_at, all_allowed, sample_answer}
-use Rattle.model_bank.specs.Bank.{Member, Bank, HasPlantOf, IsBank, MemberStands, BankStands}
+use Rattle.model_bank.specs.Bank.{Member, Bank, MemberStands, BankStands}
 use Rattle.model_bank.specs.Stepping.{dues}
 use Rattle.model_bank.specs.Steps.{due_of, answer_of, justified_of, ahead_of, judged_on, member_after, members_after, answers_of, all_justified, bank_answer, bank_after}
 use Rattle.model_bank.proofs.MemberStep.{Knows, answer-here, certificate-here, justified-here, member-stands}
@@ -125,7 +125,7 @@ module _ (plants : List Plant) (samples : List Sample) (lives : List Bool) (s : 
     pub bank-answers : bank_answer s b cs ≡ sample_answer zonotope_observer plants lives cs there (length samples)
     bank-answers =
         let answers = answers-are samples s (eqb b.count 0) b.last_inputs knows 0 b.members cs stands.members_stand
-            ∙ (λ i. answers_from zonotope_observer 0 (stands.plants_are i) (stands.lives_are i) cs there (length samples)) in
+        ∙ (λ i. answers_from zonotope_observer 0 (stands.plants_are i) (stands.lives_are i) cs there (length samples)) in
         let possible = lives-then (eqb b.count 0) b.last_inputs s b.members cs ∙ ap (λ bs. live_after bs cs) stands.lives_are in
         λ i. answer_by (stands.count_is i) (answers i) (possible i)
 

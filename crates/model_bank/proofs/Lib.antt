@@ -4,3 +4,5 @@ pub mod Judged
 pub mod Taking
 pub mod BankBegun
 pub mod Offered
+pub mod Allowed
+pub mod Later

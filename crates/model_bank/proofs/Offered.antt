@@ -1,17 +1,14 @@
 -- What a bank makes of a sample is what the definitions say of it, where certificates are offered and where none are.
-use Rattle.std.proofs.Common.{◌≡◌, ℕ, ℤ, List, [], ◌∷◌, ◌++◌, length, map, Bool, true, Option, Some, None, IfSome, option_map, Result, Ok, Err, IsOk, OnOk, refl, sym, ap, ◌∙◌, subst}
+use Rattle.std.proofs.Common.{◌≡◌, List, [], ◌∷◌, ◌++◌, length, map, Bool, Option, None, IfSome, Result, Ok, Err, IsOk, OnOk, sym, ap, ◌∙◌, subst}
 use Rattle.std.specs.List.{All}
 use Rattle.std.specs.Borrow.{Bor}
 use Rattle.std.proofs.lemmas.List.{length-map, map-append}
 use Rattle.std.proofs.lemmas.List.Elements.{All-nil, All-cons, All-head, All-tail, All-same}
-use Rattle.farkas_check.specs.Certificate.{Certificate, certificate_of}
 use Rattle.farkas_check.specs.declared.certificate.Cert.{Cert}
 use Rattle.plant_model.specs.Plant.{Plant, Sample}
-use Rattle.observer_step.specs.Answers.{zonotope_observer}
 use Rattle.model_bank.specs.Answers.{SampleAnswer, live_after}
 use Rattle.model_bank.specs.Bank.{Member, Bank, MemberStands, BankStands}
-use Rattle.model_bank.specs.Stepping.{dues, RecordsSample, StandsLonger, TakesOffers, Refusal, RefusesOffer, TakesAnyOffers, RefusesAnOffer}
-use Rattle.model_bank.specs.Steps.{due_of, bank_after}
+use Rattle.model_bank.specs.Stepping.{RecordsSample, StandsLonger, TakesOffers, Refusal, RefusesOffer}
 use Rattle.model_bank.specs.Offers.{claims_on, BankTakes, BankRefuses}
 use Rattle.model_bank.proofs.MemberStep.{justified-here, due-here, predicted-here}
 use Rattle.model_bank.proofs.BankStep.{knows, answers-are, allowed-are, bank-answers, bank-justifies, bank-stands, dues-answer, dues-live}
@@ -54,20 +51,19 @@ module _ (s : Sample) (b : Bank) (seen : SampleAnswer) (new : Bank) (takes : Ban
       subst (λ ls. BankStands plants (samples ++ s ∷ []) ls new) (dues-live plants samples lives s b stands) (claims-stand s None b tt seen new takes plants samples lives stands)
 
 -- the first model that refuses its offer
-module _ (s : Sample) (offered : Option (Bor (List (Option Cert)))) (b : Bank) (refusal : Refusal) (bank_refuses : BankRefuses s offered b refusal)
+module _ (s : Sample) (offered : Option (Bor (List (Option Cert)))) (b : Bank) (refusal : Refusal) (refuses : BankRefuses s offered b refusal)
     (plants : List Plant) (samples : List Sample) (lives : List Bool) (stands : BankStands plants samples lives b) where
-  standing : All (MemberStands samples) (bank_refuses.refuses.below ++ bank_refuses.refuses.member ∷ bank_refuses.refuses.above)
-  standing = All-same (MemberStands samples) (bank_refuses.refuses.below ++ bank_refuses.refuses.member ∷ bank_refuses.refuses.above) b.members (sym bank_refuses.refuses.members_are) stands.members_stand
+  standing : All (MemberStands samples) (refuses.below ++ refuses.member ∷ refuses.above)
+  standing = All-same (MemberStands samples) (refuses.below ++ refuses.member ∷ refuses.above) b.members (sym refuses.members_are) stands.members_stand
 
-  stand_below : All (MemberStands samples) bank_refuses.refuses.below
-  stand_below = All-left (MemberStands samples) bank_refuses.refuses.below (bank_refuses.refuses.member ∷ bank_refuses.refuses.above) standing
+  stand_below : All (MemberStands samples) refuses.below
+  stand_below = All-left (MemberStands samples) refuses.below (refuses.member ∷ refuses.above) standing
 
-  stands_here : MemberStands samples bank_refuses.refuses.member
-  stands_here = All-head (MemberStands samples) bank_refuses.refuses.member bank_refuses.refuses.above (All-right (MemberStands samples) bank_refuses.refuses.below (bank_refuses.refuses.member ∷ bank_refuses.refuses.above) standing)
+  stands_here : MemberStands samples refuses.member
+  stands_here = All-head (MemberStands samples) refuses.member refuses.above (All-right (MemberStands samples) refuses.below (refuses.member ∷ refuses.above) standing)
 
   pub claims-refused : RefusesOffer s (claims_on s b offered) plants samples lives refusal
   claims-refused =
-      let refuses = bank_refuses.refuses in
       let ready = knows plants samples lives s b stands in
       let plant_of : Member → Plant = λ m. m.plant in
       let live_of : Member → Bool = λ m. m.live in

@@ -142,7 +142,7 @@ module _ (is_first : Bool) (u : List ℤ) (s : Sample) (old : List Member) (offe
         ∙ ap (λ xs. xs ++ drop (i + 1) old) (sym (members-more is_first u s old cs long i below d None))
 
   pub refused-here : (e : Unjustified) (before : List ModelAnswer) → MemberRefuses is_first u s m claim e → before ≡ answers_of is_first u s 0 (take i old) (take i cs) → all_justified is_first u s (take i old) (take i cs) ≡ true
-      → RefusesMember is_first u s old cs (record { model = i; before = before; predicted = e.outs.items; due = e.why.due; offered = option_map certificate_of e.why.offered })
+      → RefusesMember is_first u s offered old (record { model = i; before = before; predicted = e.outs.items; due = e.why.due; offered = option_map certificate_of e.why.offered })
   refused-here e before refuses so_far all =
       let offer : get_or cs i None ≡ option_map certificate_of e.why.offered = sym claimed-here ∙ ap (claimed_of is_first u s m) refuses.refuses.claim_is in
       record {

@@ -9,7 +9,8 @@ use Rattle.observer_step.specs.declared.outcome.Judgement.{Judgement}
 use Rattle.observer_step.specs.declared.outcome.Unjustified.{Unjustified}
 use Rattle.model_bank.specs.Answers.{ModelAnswer}
 use Rattle.model_bank.specs.Bank.{Member}
-use Rattle.model_bank.specs.Steps.{certificate_on, justified_on, answer_on, set_on, ahead_of, due_of, justified_of, told_of, member_after}
+use Rattle.model_bank.specs.Steps.{certificate_on, justified_on, answer_on, set_on}
+use Rattle.model_bank.specs.Steps.{ahead_of, due_of, justified_of, told_of, member_after}
 use Rattle.model_bank.specs.declared.claim.Claim.{Claim}
 use Rattle.model_bank.specs.declared.claim.Claim.TheVariants.{Due, Offered}
 
@@ -41,18 +42,21 @@ pub record SetRefuses (p : Plant) (s : Sample) (z : Zono) (claim : Claim) (unjus
   pub outs_are : unjustified.outs.items ≡ predicted_outs p s.inputs z
 
 -- the same of model i, of which this is seen
-pub record ModelTakes (p : Plant) (s : Sample) (z z' : Zono) (is_widened : Bool) (claim : Claim) (i : ℕ) (seen : ModelAnswer) : Type 0 where
+pub record ModelTakes (p : Plant) (s : Sample) (z z' : Zono) (is_widened : Bool) (claim : Claim) (i : ℕ)
+    (seen : ModelAnswer) : Type 0 where
   pub seen_is : seen ≡ record { index = i; answer = answer_on p s z is_widened (claimed_on p s z claim) }
   pub justified : justified_on p s z (claimed_on p s z claim) ≡ true
   pub set_is : z' ≡ set_on p s z (claimed_on p s z claim)
 
 -- the same of model i of a bank: where it is live, what is claimed is justified, and this is told
-pub record MemberTakes (is_first : Bool) (u : List ℤ) (s : Sample) (i : ℕ) (old new : Member) (claim : Claim) (told : Option ModelAnswer) : Type 0 where
+pub record MemberTakes (is_first : Bool) (u : List ℤ) (s : Sample) (i : ℕ) (old new : Member) (claim : Claim)
+    (told : Option ModelAnswer) : Type 0 where
   pub justified : (not old.live || justified_of is_first u s old (claimed_of is_first u s old claim)) ≡ true
   pub told_is : told ≡ told_of is_first u s i old (claimed_of is_first u s old claim)
   pub new_is : new ≡ member_after is_first u s old (claimed_of is_first u s old claim)
 
 -- a live model of a bank refuses what is offered
-pub record MemberRefuses (is_first : Bool) (u : List ℤ) (s : Sample) (old : Member) (claim : Claim) (unjustified : Unjustified) : Type 0 where
+pub record MemberRefuses (is_first : Bool) (u : List ℤ) (s : Sample) (old : Member) (claim : Claim)
+    (unjustified : Unjustified) : Type 0 where
   pub live : old.live ≡ true
   pub refuses : SetRefuses old.plant s (ahead_of is_first u old) claim unjustified

@@ -1,5 +1,6 @@
 -- What a sample makes of a bank where certificates are offered for its models.
-use Rattle.std.specs.Prelude.{◌≡◌, ℕ, ◌==◌, ℤ, Bool, true, false, List, [], ◌∷◌, ◌++◌, length, map, Option, Some, None, option_map, slice_index_or}
+use Rattle.std.specs.Prelude.{◌≡◌, ℕ, ◌==◌, ℤ, Bool, true, false, List, ◌∷◌, ◌++◌, length, map, slice_index_or}
+use Rattle.std.specs.Prelude.{Option, Some, None, option_map}
 use Rattle.std.specs.Borrow.{Bor}
 use Rattle.farkas_check.specs.Certificate.{Certificate, certificate_of}
 use Rattle.farkas_check.specs.declared.certificate.Cert.{Cert}
@@ -7,7 +8,8 @@ use Rattle.plant_model.specs.Plant.{Sample}
 use Rattle.observer_step.specs.Predicted.{predicted_outs, due}
 use Rattle.model_bank.specs.Answers.{ModelAnswer, SampleAnswer}
 use Rattle.model_bank.specs.Bank.{Member, Bank}
-use Rattle.model_bank.specs.Steps.{ahead_of, due_of, justified_of, answers_of, members_after, all_justified, bank_answer, bank_after}
+use Rattle.model_bank.specs.Steps.{ahead_of, due_of, justified_of, answers_of, members_after, all_justified}
+use Rattle.model_bank.specs.Steps.{bank_answer, bank_after}
 use Rattle.model_bank.specs.Stepping.{Refusal}
 use Rattle.model_bank.specs.declared.claim.Claim.{Claim}
 use Rattle.model_bank.specs.declared.claim.Claim.TheVariants.{Due, Offered}
@@ -22,22 +24,23 @@ abbrev pub claims_of : Bool → List ℤ → Sample → List Member → Option (
 claims_of is_first u s ms None = map (due_of is_first u s) ms
 claims_of is_first u s ms (Some offers) = map (option_map certificate_of) offers.now
 
--- what is said of each live member is justified, and these are seen of the live ones and left of all
-pub record MembersTake (is_first : Bool) (u : List ℤ) (s : Sample) (old : List Member) (cs : List (Option Certificate))
+-- what is claimed of each live member is justified, and these are seen of the live ones and left of all
+pub record MembersTake (is_first : Bool) (u : List ℤ) (s : Sample) (offered : Option (Bor (List (Option Cert)))) (old : List Member)
     (seen : List ModelAnswer) (new : List Member) : Type 0 where
-  pub justified : all_justified is_first u s old cs ≡ true
-  pub seen_are : seen ≡ answers_of is_first u s 0 old cs
-  pub new_are : new ≡ members_after is_first u s old cs
+  pub justified : all_justified is_first u s old (claims_of is_first u s old offered) ≡ true
+  pub seen_are : seen ≡ answers_of is_first u s 0 old (claims_of is_first u s old offered)
+  pub new_are : new ≡ members_after is_first u s old (claims_of is_first u s old offered)
 
--- the first live member of which what is said is not justified
-pub record RefusesMember (is_first : Bool) (u : List ℤ) (s : Sample) (ms : List Member) (cs : List (Option Certificate)) (refusal : Refusal) : Type 0 where
+-- the first live member of which what is claimed is not justified
+pub record RefusesMember (is_first : Bool) (u : List ℤ) (s : Sample) (offered : Option (Bor (List (Option Cert)))) (ms : List Member)
+    (refusal : Refusal) : Type 0 where
   pub below : List Member
   pub claims_below : List (Option Certificate)
   pub member : Member
   pub above : List Member
   pub claims_above : List (Option Certificate)
   pub members_are : ms ≡ below ++ member ∷ above
-  pub claims_are : cs ≡ claims_below ++ refusal.offered ∷ claims_above
+  pub claims_are : claims_of is_first u s ms offered ≡ claims_below ++ refusal.offered ∷ claims_above
   pub model_is : refusal.model ≡ length below
   pub live : member.live ≡ true
   pub justified_below : all_justified is_first u s below claims_below ≡ true
@@ -51,11 +54,12 @@ abbrev pub claims_on : Sample → Bank → Option (Bor (List (Option Cert))) →
 claims_on s b offered = claims_of (b.count == 0) b.last_inputs s b.members offered
 
 -- the bank takes the sample by what is claimed
-pub record BankTakes (s : Sample) (offered : Option (Bor (List (Option Cert)))) (old : Bank) (seen : SampleAnswer) (new : Bank) : Type 0 where
+pub record BankTakes (s : Sample) (offered : Option (Bor (List (Option Cert)))) (old : Bank) (seen : SampleAnswer)
+    (new : Bank) : Type 0 where
   pub justified : all_justified (old.count == 0) old.last_inputs s old.members (claims_on s old offered) ≡ true
   pub seen_is : seen ≡ bank_answer s old (claims_on s old offered)
   pub new_is : new ≡ bank_after s old (claims_on s old offered)
 
 -- a model of the bank refuses what is claimed
-pub record BankRefuses (s : Sample) (offered : Option (Bor (List (Option Cert)))) (b : Bank) (refusal : Refusal) : Type 0 where
-  pub refuses : RefusesMember (b.count == 0) b.last_inputs s b.members (claims_on s b offered) refusal
+abbrev pub BankRefuses : Sample → Option (Bor (List (Option Cert))) → Bank → Refusal → Type 0
+BankRefuses s offered b refusal = RefusesMember (b.count == 0) b.last_inputs s offered b.members refusal

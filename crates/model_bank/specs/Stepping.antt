@@ -59,10 +59,10 @@ pub record RefusesOffer (s : Sample) (offers : List (Option Certificate)) (plant
 
 -- whatever the bank stands for, it takes the offers
 abbrev pub TakesAnyOffers : Sample → List (Option Certificate) → Bank → SampleAnswer → Bank → Type 0
-TakesAnyOffers s offers old seen new = (plants : List Plant) (samples : List Sample) (lives : List Bool) → BankStands plants samples lives old
-    → TakesOffers s offers plants samples lives seen new
+TakesAnyOffers s offers old seen new = (plants : List Plant) (samples : List Sample) (lives : List Bool)
+    → BankStands plants samples lives old → TakesOffers s offers plants samples lives seen new
 
 -- whatever the bank stands for, it refuses an offer
 abbrev pub RefusesAnOffer : Sample → List (Option Certificate) → Bank → Refusal → Type 0
-RefusesAnOffer s offers old refusal = (plants : List Plant) (samples : List Sample) (lives : List Bool) → BankStands plants samples lives old
-    → RefusesOffer s offers plants samples lives refusal
+RefusesAnOffer s offers old refusal = (plants : List Plant) (samples : List Sample) (lives : List Bool)
+    → BankStands plants samples lives old → RefusesOffer s offers plants samples lives refusal

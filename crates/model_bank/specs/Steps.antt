@@ -1,6 +1,7 @@
 -- What a sample makes of a bank and its members, from what they hold. `u` are the inputs
 -- of the sample before, of which the first sample has none.
-use Rattle.std.specs.Prelude.{ℕ, ◌+◌, ◌==◌, ℤ, Bool, true, false, not, ◌&&◌, ◌||◌, List, [], ◌∷◌, map, Option, Some, None, option_map, is_none, if◌then◌else◌}
+use Rattle.std.specs.Prelude.{ℕ, ◌+◌, ◌==◌, ℤ, Bool, true, false, not, ◌&&◌, ◌||◌, if◌then◌else◌, List, [], ◌∷◌, map}
+use Rattle.std.specs.Prelude.{Option, Some, None, option_map, is_none}
 use Rattle.farkas_check.specs.Certificate.{Certificate, by_out}
 use Rattle.set_rules.specs.Zono.{Zono}
 use Rattle.plant_model.specs.Plant.{Plant, Sample}
@@ -75,22 +76,28 @@ members_after is_first u s _ _ = []
 
 -- the answers on the members that are live, where the first is model i
 abbrev pub answers_of : Bool → List ℤ → Sample → ℕ → List Member → List (Option Certificate) → List ModelAnswer
-answers_of is_first u s i (m ∷ ms) (c ∷ cs) = answer_if m.live i (answer_of is_first u s m c) (answers_of is_first u s (i + 1) ms cs)
+answers_of is_first u s i (m ∷ ms) (c ∷ cs) =
+    answer_if m.live i (answer_of is_first u s m c) (answers_of is_first u s (i + 1) ms cs)
 answers_of is_first u s i _ _ = []
 
 -- what is said of each member that is live is justified, and something is said of each member
 abbrev pub all_justified : Bool → List ℤ → Sample → List Member → List (Option Certificate) → Bool
-all_justified is_first u s (m ∷ ms) (c ∷ cs) = (not m.live || justified_of is_first u s m c) && all_justified is_first u s ms cs
+all_justified is_first u s (m ∷ ms) (c ∷ cs) =
+    (not m.live || justified_of is_first u s m c) && all_justified is_first u s ms cs
 all_justified is_first u s [] [] = true
 all_justified is_first u s _ _ = false
+
+-- which members of a bank are live after the sample
+abbrev pub lives_after : Sample → Bank → List (Option Certificate) → List Bool
+lives_after s b cs = map (λ (m : Member). m.live) (members_after (b.count == 0) b.last_inputs s b.members cs)
 
 -- what a bank says of the sample
 abbrev pub bank_answer : Sample → Bank → List (Option Certificate) → SampleAnswer
 bank_answer s b cs = record {
   k = b.count;
   models = answers_of (b.count == 0) b.last_inputs s 0 b.members cs;
-  possible = map (λ (m : Member). m.live) (members_after (b.count == 0) b.last_inputs s b.members cs);
-  verdict = verdict_of (possible_models (map (λ (m : Member). m.live) (members_after (b.count == 0) b.last_inputs s b.members cs)));
+  possible = lives_after s b cs;
+  verdict = verdict_of (possible_models (lives_after s b cs));
 }
 
 -- the bank after the sample

@@ -1,6 +1,7 @@
 //! All models of a file over one telemetry.
 
-ghost use Rattle.std.specs.Prelude.{◌≡◌, ◌+◌, ◌<◌, ◌≤◌, ◌^◌, true, false, [], ◌++◌, length, map, replicate, IfOk, IfErr, OnOk, IsOk, IfSome, None, option_to_list};
+ghost use Rattle.std.specs.Prelude.{◌≡◌, ◌+◌, ◌<◌, ◌≤◌, ◌^◌, true, false, [], ◌++◌, length, map, replicate};
+ghost use Rattle.std.specs.Prelude.{None, IfSome, option_to_list, IfOk, IfErr, OnOk, IsOk};
 ghost use Rattle.std.specs.List.{All};
 ghost use Rattle.set_rules.specs.Limits.{input_limit};
 ghost use Rattle.plant_model.specs.Plant.{AllWithinLimit};
@@ -120,18 +121,22 @@ impl Bank {
         self.take(sample, None, earlier).unwrap();
     }
 
-    /// Takes a sample with a certificate, or none, offered for each model of the file: every live model is judged by its
-    /// offer, where that is justified. The error is the first whose offer is not. Takes no memory. After an error the bank
-    /// stands for no samples. An offer for a model that is not live is not looked at.
-    pub fn step_with(&mut self, sample: &Sample, offered: &[Option<Cert>]) -> Result<SampleRec, BadOffer>
+    /// Takes a sample with a certificate, or none, offered for each model of the file: every live model is judged by
+    /// its offer, where that is justified, and the error is the first whose offer is not. After an error the bank stands
+    /// for no samples. What is offered for a model that is not live is not looked at. Takes no memory.
+    pub fn step_with(
+        &mut self,
+        sample: &Sample,
+        offered: &[Option<Cert>],
+    ) -> Result<SampleRec, BadOffer>
         requires inputs { length sample.now.u.items ≡ self.old.inputs }
         requires outputs { length sample.now.y.items ≡ self.old.outputs }
         requires counted { self.old.count < 2 ^ 63 }
         requires offers { length offered.now ≡ length self.old.members }
-        ensures taken { IfOk result (λ told.
-            TakesAnyOffers (sample_of sample.now) (offers_seen offered.now) self.old (sample_seen told) self.new) }
-        ensures refused { IfErr result (λ bad.
-            RefusesAnOffer (sample_of sample.now) (offers_seen offered.now) self.old (refusal_seen bad)) }
+        ensures taken { IfOk result (λ told. TakesAnyOffers (sample_of sample.now) (offers_seen offered.now)
+            self.old (sample_seen told) self.new) }
+        ensures refused { IfErr result (λ bad. RefusesAnOffer (sample_of sample.now) (offers_seen offered.now)
+            self.old (refusal_seen bad)) }
         ensures inputs { self.new.inputs ≡ self.old.inputs }
         ensures outputs { self.new.outputs ≡ self.old.outputs }
         ensures members { length self.new.members ≡ length self.old.members }
@@ -150,8 +155,8 @@ impl Bank {
         }
     }
 
-    /// The same, with the record put in the place of an earlier one. After an error it has the records of the live models
-    /// below the one that is refused.
+    /// The same, with the record put in the place of an earlier one. After an error it has the records of the live
+    /// models below the one that is refused.
     pub fn step_with_into(
         &mut self,
         sample: &Sample,
@@ -162,10 +167,10 @@ impl Bank {
         requires outputs { length sample.now.y.items ≡ self.old.outputs }
         requires counted { self.old.count < 2 ^ 63 }
         requires offers { length offered.now ≡ length self.old.members }
-        ensures taken { OnOk result
-            (TakesAnyOffers (sample_of sample.now) (offers_seen offered.now) self.old (sample_seen earlier.new) self.new) }
-        ensures refused { IfErr result (λ refused.
-            RefusesAnOffer (sample_of sample.now) (offers_seen offered.now) self.old (refusal_with refused earlier.new.models.items)) }
+        ensures taken { OnOk result (TakesAnyOffers (sample_of sample.now) (offers_seen offered.now)
+            self.old (sample_seen earlier.new) self.new) }
+        ensures refused { IfErr result (λ refused. RefusesAnOffer (sample_of sample.now) (offers_seen offered.now)
+            self.old (refusal_with refused earlier.new.models.items)) }
         ensures inputs { self.new.inputs ≡ self.old.inputs }
         ensures outputs { self.new.outputs ≡ self.old.outputs }
         ensures members { length self.new.members ≡ length self.old.members }
@@ -186,9 +191,10 @@ impl Bank {
         requires outputs { length sample.now.y.items ≡ self.old.outputs }
         requires counted { self.old.count < 2 ^ 63 }
         requires offers { IfSome offered (λ offers. length offers.now ≡ length self.old.members) }
-        ensures taken { OnOk result (BankTakes (sample_of sample.now) offered.entry self.old (sample_seen earlier.new) self.new) }
-        ensures refused { IfErr result (λ refused.
-            BankRefuses (sample_of sample.now) offered.entry self.old (refusal_with refused earlier.new.models.items)) }
+        ensures taken { OnOk result (BankTakes (sample_of sample.now) offered.entry
+            self.old (sample_seen earlier.new) self.new) }
+        ensures refused { IfErr result (λ refused. BankRefuses (sample_of sample.now) offered.entry
+            self.old (refusal_with refused earlier.new.models.items)) }
         ensures due { offered.entry ≡ None → IsOk result }
         ensures inputs { self.new.inputs ≡ self.old.inputs }
         ensures outputs { self.new.outputs ≡ self.old.outputs }
@@ -217,7 +223,7 @@ impl Bank {
 ghost use Rattle.model_file.specs.Seen.{named};
 ghost use Rattle.model_bank.specs.Bank.{HasPlantOf, begun as begun_of};
 ghost use Rattle.model_bank.specs.Seen.{model_seen, refusal_with};
-ghost use Rattle.model_bank.specs.Offers.{claims_of, MembersTake, RefusesMember};
+ghost use Rattle.model_bank.specs.Offers.{MembersTake, RefusesMember};
 
 /// The members of these plants, before the first sample.
 fn begun(alloc: Global, models: Vec<NamedPlant>) -> Result<Vec<Member>, AllocError>
@@ -231,8 +237,8 @@ fn begun(alloc: Global, models: Vec<NamedPlant>) -> Result<Vec<Member>, AllocErr
     Ok(members)
 }
 
-/// What a sample makes of the models that are live, by index, up to the first that is not judged by what is claimed of it;
-/// `last` are the inputs of the sample before, which the first has not.
+/// What a sample makes of the models that are live, by index, up to the first that refuses what is claimed of it; `last`
+/// are the inputs of the sample before, which the first has not.
 fn take_all(
     members: &mut [Member],
     is_first: bool,
@@ -247,10 +253,10 @@ fn take_all(
     requires last_inputs { is_first ≡ false → length last.now.items ≡ length sample.now.u.items }
     requires last_small { AllWithinLimit input_limit last.now.items }
     requires offers { IfSome offered (λ offers. length offers.now ≡ length members.old) }
-    ensures taken { OnOk result (MembersTake is_first last.now.items (sample_of sample.now) members.old
-        (claims_of is_first last.now.items (sample_of sample.now) members.old offered.entry) (map model_seen models.new.items) members.new) }
-    ensures refused { IfErr result (λ refused. RefusesMember is_first last.now.items (sample_of sample.now) members.old
-        (claims_of is_first last.now.items (sample_of sample.now) members.old offered.entry) (refusal_with refused models.new.items)) }
+    ensures taken { OnOk result (MembersTake is_first last.now.items (sample_of sample.now) offered.entry
+        members.old (map model_seen models.new.items) members.new) }
+    ensures refused { IfErr result (λ refused. RefusesMember is_first last.now.items (sample_of sample.now) offered.entry
+        members.old (refusal_with refused models.new.items)) }
     ensures due { offered.entry ≡ None → IsOk result }
     ensures counts { All (HasPlantOf (length sample.now.u.items) (length sample.now.y.items)) members.new }
 {

@@ -56,7 +56,7 @@ impl<const N: usize> Follower<N> {
         self.live
     }
 
-    /// What a sample makes of the model, where it is live, or why it is not judged by what is claimed; `last` are the inputs
+    /// What a sample makes of the model, where it is live, or why it refuses what is claimed of it; `last` are the inputs
     /// of the sample before, which the first has not.
     pub fn take(
         &mut self,
@@ -71,8 +71,8 @@ impl<const N: usize> Follower<N> {
         requires outputs { length sample.now.y.items ≡ self.old.plant.outputs }
         requires last_inputs { is_first ≡ false → length last.now.items ≡ self.old.plant.inputs }
         requires last_small { AllWithinLimit input_limit last.now.items }
-        ensures taken { IfOk result (λ told.
-            MemberTakes is_first last.now.items (sample_of sample.now) index self.old self.new claim (option_map model_seen told)) }
+        ensures taken { IfOk result (λ told. MemberTakes is_first last.now.items (sample_of sample.now) index
+            self.old self.new claim (option_map model_seen told)) }
         ensures refused { IfErr result (MemberRefuses is_first last.now.items (sample_of sample.now) self.old claim) }
         ensures printable { IfErr result (λ e. list_all is_printable_interval e.outs.items ≡ true) }
         ensures plant { self.new.plant ≡ self.old.plant }
@@ -81,7 +81,15 @@ impl<const N: usize> Follower<N> {
             return Ok(None);
         }
         let kept = go_ahead(&self.plant, &mut self.estimate, is_first, last);
-        let model = judge(&self.plant, &mut self.estimate, index, kept, sample, room, claim)?;
+        let model = judge(
+            &self.plant,
+            &mut self.estimate,
+            index,
+            kept,
+            sample,
+            room,
+            claim,
+        )?;
         self.live = fits(&model.outcome);
         Ok(Some(model))
     }
@@ -119,8 +127,8 @@ fn judge<const N: usize>(
 ) -> Result<ModelRec, Unjustified>
     requires inputs { length sample.now.u.items ≡ plant.now.inputs }
     requires outputs { length sample.now.y.items ≡ plant.now.outputs }
-    ensures taken { IfOk result (λ model.
-        ModelTakes plant.now (sample_of sample.now) estimate.old.plain estimate.new.plain (was_widened kept) claim index (model_seen model)) }
+    ensures taken { IfOk result (λ model. ModelTakes plant.now (sample_of sample.now)
+        estimate.old.plain estimate.new.plain (was_widened kept) claim index (model_seen model)) }
     ensures refused { IfErr result (SetRefuses plant.now (sample_of sample.now) estimate.old.plain claim) }
     ensures printable { IfErr result (λ e. list_all is_printable_interval e.outs.items ≡ true) }
 {
@@ -152,7 +160,8 @@ fn judge_by<const N: usize>(
 ) -> Result<Judgement, Unjustified>
     requires inputs { length sample.now.u.items ≡ plant.now.inputs }
     requires outputs { length sample.now.y.items ≡ plant.now.outputs }
-    ensures taken { IfOk result (SetTakes plant.now (sample_of sample.now) estimate.old.plain estimate.new.plain claim) }
+    ensures taken { IfOk result
+        (SetTakes plant.now (sample_of sample.now) estimate.old.plain estimate.new.plain claim) }
     ensures refused { IfErr result (SetRefuses plant.now (sample_of sample.now) estimate.old.plain claim) }
     ensures printable { list_all is_printable_interval (outs_in result) ≡ true }
 {

@@ -65,7 +65,7 @@ impl Member {
         is_live(&self.follower)
     }
 
-    /// What a sample makes of the model, where it is live, or why it is not judged by what is claimed; `last` are the inputs
+    /// What a sample makes of the model, where it is live, or why it refuses what is claimed of it; `last` are the inputs
     /// of the sample before, which the first has not.
     pub fn take(
         &mut self,
@@ -80,13 +80,21 @@ impl Member {
         requires outputs { length sample.now.y.items ≡ self.old.plant.outputs }
         requires last_inputs { is_first ≡ false → length last.now.items ≡ self.old.plant.inputs }
         requires last_small { AllWithinLimit input_limit last.now.items }
-        ensures taken { IfOk result (λ told.
-            MemberTakes is_first last.now.items (sample_of sample.now) index self.old self.new claim (option_map model_seen told)) }
+        ensures taken { IfOk result (λ told. MemberTakes is_first last.now.items (sample_of sample.now) index
+            self.old self.new claim (option_map model_seen told)) }
         ensures refused { IfErr result (MemberRefuses is_first last.now.items (sample_of sample.now) self.old claim) }
         ensures printable { IfErr result (λ e. list_all is_printable_interval e.outs.items ≡ true) }
         ensures plant { self.new.plant ≡ self.old.plant }
     {
-        take(&mut self.follower, index, is_first, last, sample, room, claim)
+        take(
+            &mut self.follower,
+            index,
+            is_first,
+            last,
+            sample,
+            room,
+            claim,
+        )
     }
 }
 
@@ -127,7 +135,7 @@ fn is_live(follower: &AnyFollower) -> bool
     }
 }
 
-/// What a sample makes of the model, where it is live, or why it is not judged by what is claimed.
+/// What a sample makes of the model, where it is live, or why it refuses what is claimed of it.
 fn take(
     follower: &mut AnyFollower,
     index: u32,
@@ -143,7 +151,8 @@ fn take(
     requires last_small { AllWithinLimit input_limit last.now.items }
     ensures taken { IfOk result (λ told. MemberTakes is_first last.now.items (sample_of sample.now) index
         (member_of follower.old) (member_of follower.new) claim (option_map model_seen told)) }
-    ensures refused { IfErr result (MemberRefuses is_first last.now.items (sample_of sample.now) (member_of follower.old) claim) }
+    ensures refused { IfErr result
+        (MemberRefuses is_first last.now.items (sample_of sample.now) (member_of follower.old) claim) }
     ensures printable { IfErr result (λ e. list_all is_printable_interval e.outs.items ≡ true) }
     ensures plant { (member_of follower.new).plant ≡ (member_of follower.old).plant }
 {

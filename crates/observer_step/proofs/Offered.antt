@@ -5,7 +5,7 @@ use Rattle.farkas_check.specs.Certificate.{Certificate, by_out, by_rows}
 use Rattle.plant_model.specs.Plant.{Plant, Sample}
 use Rattle.observer_step.specs.Predicted.{due}
 use Rattle.observer_step.specs.Estimate.{correct}
-use Rattle.observer_step.specs.Answers.{is_justified, refutes_none}
+use Rattle.observer_step.specs.Answers.{is_justified, refutes_none, Rule, any_justified, as_run_chooses, is_allowed}
 use Rattle.observer_step.specs.Offers.{offers_output, correct_if, set_offered}
 
 -- the certificate that is due is justified
@@ -45,3 +45,9 @@ module _ (p : Plant) (s : Sample) (z after : Zono) where
 
   pub fits-justified : (c : Option Certificate) → is_justified (due p s z) refutes_none c ≡ true → after ≡ set_offered p s z c → c ≡ None → after ≡ correct p s z
   fits-justified c justified set none = set-justified c justified set ∙ ap (λ c. correct_if (is_none c) p s z) none
+
+-- the certificate that is due is allowed by each rule, where no rows are kept
+pub due-allowed : (rule : Rule) (d : Option ℕ) → is_allowed rule d refutes_none None (option_map by_out d) ≡ true
+due-allowed any_justified d = due-justified d refutes_none
+due-allowed as_run_chooses None = refl
+due-allowed as_run_chooses (Some o) = eq-eqb o o refl

@@ -1,5 +1,6 @@
 -- What a sample makes of a model where a certificate, or none, is offered for it.
-use Rattle.std.specs.Prelude.{◌≡◌, ℕ, ℤ, Bool, true, false, not, ◌&&◌, is_none, List, Option, None, Some, option_map, Result, Ok, Err, if◌then◌else◌}
+use Rattle.std.specs.Prelude.{◌≡◌, ℕ, ℤ, Bool, true, false, not, ◌&&◌, if◌then◌else◌, List, Result, Ok, Err}
+use Rattle.std.specs.Prelude.{Option, None, Some, option_map, is_none}
 use Rattle.set_rules.specs.Zono.{Zono}
 use Rattle.farkas_check.specs.Certificate.{Certificate, by_out, by_rows, certificate_of}
 use Rattle.farkas_check.specs.declared.certificate.Cert.{Cert}

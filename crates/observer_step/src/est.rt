@@ -105,8 +105,8 @@ impl<const N: usize> Est<N> {
         self.judge(plant, sample, &mut room).outcome
     }
 
-    /// The same by a certificate that is offered, or by none, where that is justified. Else the answer is why not. The set
-    /// takes the readings where no output is due and none is offered.
+    /// The same by a certificate that is offered, or by none, where that is justified; else the answer is why not. The
+    /// set takes the readings where no output is due and none is offered, and else it stays.
     pub fn correct_with(
         &mut self,
         plant: &Plant<N>,
@@ -116,8 +116,10 @@ impl<const N: usize> Est<N> {
         requires inputs { length sample.now.u.items ≡ plant.now.inputs }
         requires outputs { length sample.now.y.items ≡ plant.now.outputs }
         ensures outcome { AnswersOffer (due plant.now (sample_of sample.now) self.old.plain) offered result }
-        ensures set { self.new.plain ≡ set_offered plant.now (sample_of sample.now) self.old.plain (option_map certificate_of offered) }
-        ensures stands { IfOk result (λ outcome. Justifies plant.now (sample_of sample.now) self.old self.new (certificate_in outcome)) }
+        ensures set { self.new.plain
+            ≡ set_offered plant.now (sample_of sample.now) self.old.plain (option_map certificate_of offered) }
+        ensures stands { IfOk result (λ outcome.
+            Justifies plant.now (sample_of sample.now) self.old self.new (certificate_in outcome)) }
     {
         let mut room = Room::new();
         match self.judge_with(plant, sample, &mut room, offered) {
@@ -165,8 +167,10 @@ impl<const N: usize> Est<N> {
         ensures outs { outs_in result ≡ predicted_outs plant.now sample.now.u.items self.old.plain }
         ensures printable { list_all is_printable_interval (outs_in result) ≡ true }
         ensures outcome { AnswersOffer (due plant.now (sample_of sample.now) self.old.plain) offered (answer_in result) }
-        ensures set { self.new.plain ≡ set_offered plant.now (sample_of sample.now) self.old.plain (option_map certificate_of offered) }
-        ensures stands { IfOk result (λ judgement. Justifies plant.now (sample_of sample.now) self.old self.new (certificate_in judgement.outcome)) }
+        ensures set { self.new.plain
+            ≡ set_offered plant.now (sample_of sample.now) self.old.plain (option_map certificate_of offered) }
+        ensures stands { IfOk result (λ judgement.
+            Justifies plant.now (sample_of sample.now) self.old self.new (certificate_in judgement.outcome)) }
     {
         let wanted = !offers_output(&offered);
         let Passed { outs, due } = pass_over(

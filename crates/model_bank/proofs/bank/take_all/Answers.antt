@@ -1,4 +1,4 @@
-use Rattle.std.proofs.Common.{◌≡◌, None, ◌+◌, ◌<◌, ◌≤◌, length, map, get_or, take, option_map, sym, ap, ◌∙◌, arith}
+use Rattle.std.proofs.Common.{◌≡◌, None, ◌<◌, length, map, get_or, take, option_map, ap, ◌∙◌, arith}
 use Rattle.std.proofs.lemmas.List.Elements.{All-set}
 use Rattle.plant_model.specs.Seen.{sample_of}
 use Rattle.model_bank.specs.Bank.{HasPlantOf}

@@ -1,7 +1,5 @@
-use Rattle.std.proofs.Common.{Some}
 use Rattle.std.proofs.lemmas.Result.{on_ok_weaker, IfErr-weaker}
 use Rattle.plant_model.specs.Seen.{sample_of}
-use Rattle.model_bank.specs.Offers.{BankRefuses}
 use Rattle.model_bank.specs.Seen.{sample_seen, offers_seen, refusal_with}
 use Rattle.model_bank.specs.Stepping.{RefusesAnOffer}
 use Rattle.model_bank.proofs.Offered.{claims-taken, claims-refused}
