@@ -2,10 +2,10 @@ ghost use Rattle.std.specs.Prelude.{◌≡◌, ◌≤◌, IfSome, unsigned_abs};
 ghost use Rattle.set_rules.specs.Limits.{input_limit};
 ghost use Rattle.plant_model.specs.Plant.{IsReading};
 
-use observer_step::{Est, Kept, Outcome};
 use arrayvec::ArrayVec;
-use farkas_check::Cert;
+use farkas_check::{Cert, Multipliers};
 use fixed_mat::{Mat, Reading};
+use observer_step::{Est, Kept, Outcome};
 use plant_model::{Plant, PlantParts, Sample};
 use std::test::Fail;
 
@@ -299,5 +299,30 @@ fn the_least_output_that_misses_is_named(rt: HostRuntime) -> Result<(), Fail> {
         let outcome = est.correct(&plant, &sample);
         assert!(rt; matches!(outcome, Outcome::Excluded(Cert::Out(o)) if o == output));
     }
+    Ok(())
+}
+
+/// No row is kept, so no multipliers refute one.
+#[test]
+fn offered_rows_are_not_justified(rt: HostRuntime) -> Result<(), Fail> {
+    let plant = plant(0, ONE / 2, ONE)?;
+    let rows = Cert::Rows(Multipliers::of(&[1]).ok_or("in range")?);
+    let half = sample(
+        None,
+        Reading::Value {
+            v: 500_000_000,
+            slack: 0,
+        },
+    );
+    let mut est = Est::begin(&plant);
+    assert!(rt; half.u.is_empty() && plant.inputs() == 0);
+    assert!(rt; half.y.len() == 1 && plant.outputs() == 1);
+    let Err(why) = est.correct_with(&plant, &half, Some(rows)) else {
+        return Err("justified".into());
+    };
+    assert_eq!(rt; why.due, None);
+    assert!(rt;
+        matches!(why.offered, Some(Cert::Rows(list)) if list.len() == 1 && list.at(0) == 1)
+    );
     Ok(())
 }

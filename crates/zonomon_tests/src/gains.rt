@@ -1,5 +1,5 @@
-use row_drop::{gain, gain_within};
 use fixed_mat::{Coefs, Cols};
+use row_drop::{gain, gain_within};
 use std::test::Fail;
 
 const ONE: i64 = 1_000_000_000;

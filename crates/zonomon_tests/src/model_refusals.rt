@@ -1,5 +1,5 @@
-use refusal_text::model_refusal;
 use model_file::{MOST_BYTES, read_models};
+use refusal_text::model_refusal;
 use std::alloc::Global;
 use std::process::Abort;
 use std::test::Fail;

@@ -1,5 +1,5 @@
-use plant_model::{Names, Plant, PlantFault, PlantParts};
 use fixed_mat::Mat;
+use plant_model::{Names, Plant, PlantFault, PlantParts};
 use std::test::Fail;
 
 /// A plant of one state, with this noise, centre and radius.

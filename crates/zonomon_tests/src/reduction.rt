@@ -1,5 +1,5 @@
-use girard_reduce::{kept, rank, reduce, reduce_in_place};
 use fixed_mat::{Cols, Mat, Range};
+use girard_reduce::{kept, rank, reduce, reduce_in_place};
 use std::test::Fail;
 
 #[test]

@@ -5,10 +5,10 @@ mod refusals;
 mod several_models;
 mod words;
 
-use zonomon_run::run;
 use outside_io::{SureShelf, SureSink};
 use std::alloc::Global;
 use std::test::Fail;
+use zonomon_run::run;
 
 /// How a call of the program ended.
 #[derive(Drop)]

@@ -1,6 +1,6 @@
-use zono_set::{PastRange, Used, Zono};
 use fixed_mat::{Coef, Coefs, Cols, Mat, Range, Raws};
 use std::test::Fail;
+use zono_set::{PastRange, Used, Zono};
 
 /// A plant of one state: half of it stays, and it is read with noise within 0.1 units.
 const HALF: i128 = 500_000_000;

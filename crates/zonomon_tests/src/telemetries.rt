@@ -1,11 +1,11 @@
 ghost use Rattle.std.specs.Prelude.{◌≡◌, ◌≤◌, ◌^◌, length};
 
-use telem_csv::{Col, Fed, Header, LineCutter, TelemFault, TelemWhy, read_row};
 use dec_text::DecFault;
 use fixed_mat::Reading;
 use plant_model::Names;
 use std::alloc::Global;
 use std::test::Fail;
+use telem_csv::{Col, Fed, Header, LineCutter, TelemFault, TelemWhy, read_row};
 
 const OUTPUT: Col = Col {
     input: false,

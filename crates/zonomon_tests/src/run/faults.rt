@@ -2,10 +2,10 @@
 use super::inputs::PAIR;
 use super::several_models::TOLD_APART;
 use super::{Ran, words_of};
-use zonomon_run::run;
 use outside_io::{MemShelf, MemSink, SureSink};
 use std::alloc::Global;
 use std::test::Fail;
+use zonomon_run::run;
 
 /// Runs the program over the pair of models, where these calls of the shelf fail and these of the output.
 fn run_with(

@@ -1,9 +1,9 @@
 //! The words of a call.
 use super::{Ran, words_of};
-use zonomon_run::run;
 use outside_io::{MemSink, SureShelf, SureSink};
 use std::alloc::Global;
 use std::test::Fail;
+use zonomon_run::run;
 
 const USAGE: &str = "usage: zonomon run MODEL TELEMETRY
        zonomon check MODEL TELEMETRY REPORT
