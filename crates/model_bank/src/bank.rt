@@ -203,7 +203,7 @@ impl Bank {
         ensures k { OnOk result (earlier.new.k ≡ self.old.count) }
     {
         earlier.k = self.count;
-        take_all(
+        match take_all(
             &mut self.members,
             self.count == 0,
             &self.last,
@@ -211,12 +211,16 @@ impl Bank {
             &mut self.room,
             offered,
             &mut earlier.models,
-        )?;
-        tell_possible(&self.members, &mut earlier.possible);
-        earlier.verdict = judge(&earlier.possible);
-        self.count += 1;
-        replace(&mut self.last, &sample.u);
-        Ok(())
+        ) {
+            Ok(()) => {
+                tell_possible(&self.members, &mut earlier.possible);
+                earlier.verdict = judge(&earlier.possible);
+                self.count += 1;
+                replace(&mut self.last, &sample.u);
+                Ok(())
+            }
+            Err(refused) => Err(refused),
+        }
     }
 }
 

@@ -81,7 +81,7 @@ impl<const N: usize> Follower<N> {
             return Ok(None);
         }
         let kept = go_ahead(&self.plant, &mut self.estimate, is_first, last);
-        let model = judge(
+        match judge(
             &self.plant,
             &mut self.estimate,
             index,
@@ -89,9 +89,13 @@ impl<const N: usize> Follower<N> {
             sample,
             room,
             claim,
-        )?;
-        self.live = fits(&model.outcome);
-        Ok(Some(model))
+        ) {
+            Ok(model) => {
+                self.live = fits(&model.outcome);
+                Ok(Some(model))
+            }
+            Err(unjustified) => Err(unjustified),
+        }
     }
 }
 
@@ -132,22 +136,28 @@ fn judge<const N: usize>(
     ensures refused { IfErr result (SetRefuses plant.now (sample_of sample.now) estimate.old.plain claim) }
     ensures printable { IfErr result (λ e. list_all is_printable_interval e.outs.items ≡ true) }
 {
-    let Judgement {
-        outs: preds,
-        outcome,
-    } = judge_by(plant, estimate, sample, room, claim)?;
-    let hulls = if fits(&outcome) {
-        hulls(plant, estimate)
-    } else {
-        ArrayVec::new()
-    };
-    Ok(ModelRec {
-        index,
-        preds,
-        kept,
-        outcome,
-        hulls,
-    })
+    match judge_by(plant, estimate, sample, room, claim) {
+        Ok(
+            Judgement {
+                outs: preds,
+                outcome,
+            },
+        ) => {
+            let hulls = if fits(&outcome) {
+                hulls(plant, estimate)
+            } else {
+                ArrayVec::new()
+            };
+            Ok(ModelRec {
+                index,
+                preds,
+                kept,
+                outcome,
+                hulls,
+            })
+        }
+        Err(unjustified) => Err(unjustified),
+    }
 }
 
 /// What a sample says of a model by what is claimed of it.

@@ -8,14 +8,14 @@ use Rattle.model_bank.proofs.Judged.{hulls-judged, no_hulls-judged, answer-judge
 use Rattle.model_bank.proofs.follower.judge.Goals as goal
 use Rattle.model_bank.proofs.follower.judge.Goals.{then-fits, else-fits}
 
-pub returns-clause-taken : goal.returns-clause-taken
-returns-clause-taken g c =
+pub returns-after-fits-clause-taken : goal.returns-after-fits-clause-taken
+returns-after-fits-clause-taken g c =
     let p = c.args.plant.now in
     let s = sample_of c.args.sample.now in
     let z = c.args.estimate.now.plain in
     let after = c.judge_by.new.estimate.plain in
     let certificate = claimed_on p s z c.args.claim in
-    let taken = c.in_ok-preds.ensures.taken in
+    let taken = c.in-Ok.ensures.taken in
     let fits = c.fits.ensures ∙ ap is_none taken.certificate_is in
     let hs : c.if-fits.hulls.items ≡ (if is_none certificate then hulls p (correct p s z) else []) =
     elim c.if-fits.branch [
@@ -23,8 +23,8 @@ returns-clause-taken g c =
       | else-fits w ↦ no_hulls-judged p s z after certificate taken.set_is c.if-fits.hulls.items (sym fits ∙ w.if-fits.false) (ap (λ v. v.items) w.hulls-is ∙ w.new-hulls.ensures)
     ] in
     record {
-      seen_is = ap (λ o. model_answer c.args.index c.in_ok-preds.field-0.outs.items (was_widened c.args.kept) o c.if-fits.hulls.items) taken.certificate_is
-          ∙ answer-judged p s z after certificate taken.set_is c.args.index (was_widened c.args.kept) c.in_ok-preds.field-0.outs.items c.if-fits.hulls.items taken.outs_are hs;
+      seen_is = ap (λ o. model_answer c.args.index c.in-Ok.field-0.outs.items (was_widened c.args.kept) o c.if-fits.hulls.items) taken.certificate_is
+          ∙ answer-judged p s z after certificate taken.set_is c.args.index (was_widened c.args.kept) c.in-Ok.field-0.outs.items c.if-fits.hulls.items taken.outs_are hs;
       justified = taken.justified;
       set_is = taken.set_is;
     }

@@ -7,8 +7,8 @@ use Rattle.model_bank.specs.Claims.{claimed_on}
 use Rattle.model_bank.proofs.Judged.{justified-taken, answer-taken, member-taken, certificate-in}
 use Rattle.model_bank.proofs.follower.Follower.take.Goals as goal
 
-pub returns-clause-taken : goal.returns-clause-taken
-returns-clause-taken g c =
+pub returns-in-Ok-clause-taken : goal.returns-in-Ok-clause-taken
+returns-in-Ok-clause-taken g c =
     let u = c.args.last.now.items in
     let s = sample_of c.args.sample.now in
     let m = c.args.self.now in
@@ -20,8 +20,8 @@ returns-clause-taken g c =
     let ahead = c.go_ahead-kept.ensures.set ∙ ap (λ m. set_ahead c.args.is_first u m.plant m.estimate.plain) seen in
     let widened = c.go_ahead-kept.ensures.kept ∙ ap (λ m. widens c.args.is_first u m.plant m.estimate.plain) seen in
     let live = sym (ap (λ m. m.live) seen) ∙ c.if-not-self.false in
-    let taken = c.in_ok-model.ensures.taken in
-    let model = model_seen c.in_ok-model.model in
+    let taken = c.in-Ok.ensures.taken in
+    let model = model_seen c.in-Ok.model in
     record {
       justified = justified-taken c.args.is_first u s m live p same z ahead c.args.claim taken.justified;
       told_is = answer-taken c.args.is_first u s m live p same z ahead c.args.claim c.args.index w model widened taken.seen_is;
