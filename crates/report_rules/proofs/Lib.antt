@@ -2,3 +2,5 @@ pub mod Hulls
 pub mod Misses
 pub mod Chosen
 pub mod Later
+pub mod Alone
+pub mod Departs
