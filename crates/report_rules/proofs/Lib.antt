@@ -4,3 +4,4 @@ pub mod Chosen
 pub mod Later
 pub mod Alone
 pub mod Departs
+pub mod Replays
