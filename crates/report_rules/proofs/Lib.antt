@@ -5,3 +5,4 @@ pub mod Later
 pub mod Alone
 pub mod Departs
 pub mod Replays
+pub mod Placed
