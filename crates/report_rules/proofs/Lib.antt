@@ -6,3 +6,5 @@ pub mod Alone
 pub mod Departs
 pub mod Replays
 pub mod Placed
+pub mod Refused
+pub mod Offered

@@ -127,7 +127,7 @@ module _ (names : List (List ℕ)) (ps : List Plant) (taken : List Sample) (c : 
   dues = certificates_at zonotope_observer ps all k
 
   -- its lines with them
-  abbrev due_lines : List Line
+  abbrev pub due_lines : List Line
   due_lines = sample_lines (sample_answer zonotope_observer ps lives dues all k)
 
   -- with what is justified they are the same
