@@ -1,26 +1,26 @@
 -- Where the bytes depart at a model whose offer is not justified.
-use Rattle.std.proofs.Common.{◌≡◌, ◌≢◌, ℕ, zero, suc, ◌+◌, ◌<◌, ◌≤◌, ℤ, Bool, true, false, List, [], ◌∷◌, ◌++◌, length, drop, flat_map, get_or, Option, Some, None, is_none, option_map, refl, sym, ap, ◌∙◌, arith, subst, append_assoc, length-append}
+use Rattle.std.proofs.Common.{◌≡◌, ℕ, zero, suc, ◌+◌, ◌<◌, ◌≤◌, Bool, true, false, List, [], ◌∷◌, ◌++◌, length, drop, flat_map, get_or, Option, Some, None, sym, ap, ◌∙◌, arith, subst, append_assoc, length-append}
 use Rattle.std.specs.List.{list_all}
 use Rattle.std.proofs.lemmas.List.{drop-drop}
 use Rattle.std.proofs.lemmas.Grind.{flat_map-append}
 use Rattle.set_rules.specs.Tests.{first_below, last_passing, or_else}
 use Rattle.set_rules.specs.Box.{hull as hull_of}
 use Rattle.set_rules.proofs.ImageSets.{length-tabulate}
-use Rattle.farkas_check.specs.Certificate.{Certificate, by_out}
+use Rattle.farkas_check.specs.Certificate.{Certificate}
 use Rattle.isolate_core.specs.Verdict.{verdict_of, possible_models}
 use Rattle.plant_model.specs.Plant.{Plant, Sample, sample_at, reading_at}
 use Rattle.observer_step.specs.Predicted.{out_of, reading_misses, due}
-use Rattle.observer_step.specs.Answers.{zonotope_observer, answer_with, certificate_at, due_at, any_justified, allows_at}
+use Rattle.observer_step.specs.Answers.{zonotope_observer, certificate_at, due_at, any_justified}
 use Rattle.model_bank.specs.Answers.{ModelAnswer, answers_from, sample_answer, live_after, certificates_at, all_allowed}
 use Rattle.model_bank.specs.Stepping.{Refusal, RefusesOffer}
-use Rattle.report_text.specs.Line.{Line, sample, possible, verdict, put_text, lines_text}
+use Rattle.report_text.specs.Line.{Line, sample, possible, verdict, lines_text}
 use Rattle.report_text.specs.Ranges.{is_in_range}
 use Rattle.report_rules.specs.Lines.{pred_lines, outcome_lines, model_lines, sample_lines}
 use Rattle.report_rules.specs.Report.{Choice, lives_before}
 use Rattle.report_rules.specs.Replay.{AreFew, watch, lines_so_far, Replayed, IsOffer, OffersAre, Takes, TakesEnough, DepartsAt}
 use Rattle.report_rules.proofs.Chosen.{length-lives_before}
 use Rattle.report_rules.proofs.Placed.{at-length, answer_at, length-preds, length-allowed, certificate-allowed, dues-allowed, answers-placed, allowed-placed, offer-placed}
-use Rattle.report_rules.proofs.Refused.{IsOutcome, outcome-begins, refused-differs}
+use Rattle.report_rules.proofs.Refused.{outcome-begins, refused-differs}
 use Rattle.report_rules.proofs.Replays.{justified-lines, due_lines, line-departs}
 
 -- the lines of the sample up to the predictions of the refused model

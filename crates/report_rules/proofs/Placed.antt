@@ -1,5 +1,5 @@
 -- The models below one, and that one: where its lines and its offer stand among those of all.
-use Rattle.std.proofs.Common.{◌≡◌, ℕ, zero, suc, ◌+◌, ◌<◌, ◌≤◌, ◌==◌, ℤ, Bool, true, false, not, ◌||◌, ◌&&◌, List, [], ◌∷◌, ◌++◌, length, drop, map, flat_map, get_or, Option, Some, None, is_none, is_some, option_map, if◌then◌else◌, refl, sym, ap, ◌∙◌, arith, subst, append_assoc, length-append}
+use Rattle.std.proofs.Common.{◌≡◌, ℕ, suc, ◌+◌, Bool, true, false, not, ◌||◌, ◌&&◌, List, [], ◌∷◌, ◌++◌, length, drop, map, flat_map, get_or, Option, Some, None, is_some, option_map, if◌then◌else◌, refl, ap, ◌∙◌, arith, subst, length-append}
 use Rattle.std.specs.List.{enumerate_from}
 use Rattle.std.proofs.lemmas.Bool.Decides.{nat_tests}
 use Rattle.std.proofs.lemmas.List.{length-map, drop-drop}
@@ -7,7 +7,7 @@ use Rattle.std.proofs.lemmas.List.FromFn.{length-enumerate_from}
 use Rattle.set_rules.proofs.ImageSets.{length-tabulate}
 use Rattle.farkas_check.specs.Certificate.{Certificate, by_out}
 use Rattle.plant_model.specs.Plant.{Plant, Sample, sample_at}
-use Rattle.observer_step.specs.Predicted.{out_of, predicted_outs, hulls}
+use Rattle.observer_step.specs.Predicted.{out_of, hulls}
 use Rattle.set_rules.specs.Box.{hull as hull_of}
 use Rattle.observer_step.specs.Answers.{Answer, zonotope_observer, answer_with, certificate_at, due_at, refutes_none, is_justified, any_justified, allows_at}
 use Rattle.model_bank.specs.Answers.{ModelAnswer, answer_if, answers_from, certificates_at, all_allowed}

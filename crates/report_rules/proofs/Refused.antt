@@ -1,13 +1,13 @@
 -- Where a model's offer is not justified, the bytes do not go on by its outcome.
-use Rattle.std.proofs.Common.{◌≡◌, ◌≢◌, ◌⊎◌, inl, inr, ℕ, zero, suc, ◌+◌, ◌<◌, ◌≤◌, ◌==◌, nat_le, nat_lt, ℤ, Bool, true, false, not, ◌||◌, ◌&&◌, List, [], ◌∷◌, ◌++◌, length, get_or, drop, map, flat_map, Option, Some, None, is_none, option_map, refl, sym, ap, ◌∙◌, arith, subst, append_assoc, length-append}
+use Rattle.std.proofs.Common.{◌≡◌, ◌≢◌, ◌⊎◌, inl, inr, ℕ, ◌+◌, ◌<◌, ◌≤◌, ◌==◌, nat_le, ℤ, Bool, true, false, not, ◌||◌, ◌&&◌, List, [], ◌∷◌, ◌++◌, length, get_or, drop, map, Option, Some, None, option_map, refl, sym, ap, ◌∙◌, arith, subst, append_assoc}
 use Rattle.std.specs.List.{enumerate_from, list_all, list_any}
 use Rattle.std.proofs.lemmas.Bool.Decides.{nat_tests}
 use Rattle.std.proofs.lemmas.List.{length-drop}
-use Rattle.farkas_check.specs.Certificate.{Certificate, by_out, by_rows}
+use Rattle.farkas_check.specs.Certificate.{Certificate, by_out}
 use Rattle.observer_step.specs.Answers.{refutes_none, is_justified}
 use Rattle.report_text.specs.Line.{Line, exclude, hull, status, line_text, put_text, lines_text}
 use Rattle.report_text.specs.Laws.{is_feed}
-use Rattle.report_text.specs.Ranges.{IsLine, is_in_range, is_model_index, is_output_index}
+use Rattle.report_text.specs.Ranges.{is_in_range}
 use Rattle.report_text.proofs.Guessed.{lines-differ}
 use Rattle.report_text.proofs.Sizes.{lines-are_short, lines-have_no_feed}
 use Rattle.report_rules.specs.Lines.{outcome_lines}

@@ -1,5 +1,5 @@
 -- What is known in the middle of a check goes on from sample to sample, and where the bytes depart in a sample.
-use Rattle.std.proofs.Common.{◌≡◌, ◌≢◌, ◌⊎◌, inl, inr, ℕ, zero, suc, ◌+◌, ◌<◌, ◌≤◌, ◌==◌, Bool, true, false, List, [], ◌∷◌, ◌++◌, length, get_or, take, drop, Option, if◌then◌else◌, refl, sym, ap, ◌∙◌, arith, subst, append_assoc, length-append, drop-cons}
+use Rattle.std.proofs.Common.{◌≡◌, ◌≢◌, ◌⊎◌, inl, inr, ℕ, zero, suc, ◌+◌, ◌<◌, ◌≤◌, ◌==◌, Bool, true, false, List, [], ◌∷◌, ◌++◌, length, get_or, take, drop, Option, if◌then◌else◌, sym, ap, ◌∙◌, arith, subst, append_assoc, length-append, drop-cons}
 use Rattle.std.proofs.lemmas.Bool.Decides.{nat_tests}
 use Rattle.std.proofs.Math.Nat.{eq-or-lt_of_le}
 use Rattle.std.proofs.lemmas.List.{append-nil, take-append-drop, length-take-le}
@@ -9,7 +9,7 @@ use Rattle.observer_step.specs.Answers.{any_justified, zonotope_observer}
 use Rattle.model_bank.specs.Answers.{all_allowed, sample_answer, live_after, certificates_at}
 use Rattle.report_text.specs.Line.{Line, put_text, lines_text}
 use Rattle.report_rules.specs.Lines.{head_lines, sample_lines, last_lines}
-use Rattle.report_rules.specs.Report.{Watch, Choice, lives_before, samples_lines, due_choice, AllowedBefore}
+use Rattle.report_rules.specs.Report.{Choice, lives_before, samples_lines, due_choice}
 use Rattle.report_rules.specs.Replay.{watch, lines_so_far, Replayed, chosen_at, DepartsAt}
 use Rattle.report_rules.proofs.Later.{all_allowed-same, lines-same, lives-alike, lines-alike, due-lines-same, due-lives-same, sample_answer-same, certificates-same}
 use Rattle.report_rules.proofs.Alone.{due_report, sample_answer-due, samples_lines-due, lives_before-due}
