@@ -16,8 +16,9 @@ ghost use Rattle.monitor_run.specs.Outcome.{AsksInOrder, IfRead, ReadsFailed, Ha
 ghost use Rattle.monitor_run.specs.Rows.{rows_lines, StandsDue, SaysOfRows, EndsRun, PutsLast};
 
 use crate::done::{Done, RunFault};
-use input_files::{MOST_TELEMETRY, TELEMETRY_SLOT, find_header, next_row, read_model};
-use input_files::{Stream, StreamFault};
+use input_files::{
+    MOST_TELEMETRY, Stream, StreamFault, TELEMETRY_SLOT, find_header, next_row, read_model,
+};
 use model_bank::{Bank, SampleRec};
 use model_file::Bank0;
 use outside_io::{Shelf, Sink};

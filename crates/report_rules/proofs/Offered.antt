@@ -93,12 +93,13 @@ module _ (names : List (List ℕ)) (ps : List Plant) (taken : List Sample) (c : 
       let rest = answers_from zonotope_observer (refusal.model + 1) refuses.plants_above refuses.lives_above above all k in
       let model : ModelAnswer = record { index = refusal.model; answer = answer_at all k plant cert } in
       let lines_below = flat_map model_lines refusal.before in
-      let lines_above = flat_map model_lines rest in
-      (lines_above ++ closing,
-      ap (λ rs. sample k ∷ (flat_map model_lines rs ++ closing)) (answers-are cert above)
-      ∙ ap (λ ls. sample k ∷ (ls ++ closing)) (flat_map-append model_lines refusal.before (model ∷ rest))
-      ∙ ap (λ outs. sample k ∷ (lines_below ++ ((pred_lines refusal.model outs ++ outcome cert) ++ lines_above) ++ closing)) (sym refuses.predicted_are)
-      ∙ ap (λ ls. sample k ∷ ls) (grouped lines_below (pred_lines refusal.model refusal.predicted) (outcome cert) lines_above closing))
+      let lines_above = flat_map model_lines rest in (
+        lines_above ++ closing,
+        ap (λ rs. sample k ∷ (flat_map model_lines rs ++ closing)) (answers-are cert above)
+            ∙ ap (λ ls. sample k ∷ (ls ++ closing)) (flat_map-append model_lines refusal.before (model ∷ rest))
+            ∙ ap (λ outs. sample k ∷ (lines_below ++ ((pred_lines refusal.model outs ++ outcome cert) ++ lines_above) ++ closing)) (sym refuses.predicted_are)
+            ∙ ap (λ ls. sample k ∷ ls) (grouped lines_below (pred_lines refusal.model refusal.predicted) (outcome cert) lines_above closing),
+      )
     where
       grouped : (a b e f g : List Line) → (a ++ ((b ++ e) ++ f)) ++ g ≡ (a ++ b) ++ (e ++ (f ++ g))
       grouped a b e f g = simp append_assoc

@@ -184,12 +184,13 @@ module _ (names : List (List ℕ)) (ps : List Plant) (taken : List Sample) (c : 
           let last = last_lines (length whole) is_whole in
           let head = head_lines names in
           let lines = samples_lines zonotope_observer ps taken c k in
-          let many : length whole ≡ k + 1 + length more = omega (arith, length-append all more, one-more) in
-          (rest.0 ++ last,
-          ap (λ n. head ++ samples_lines zonotope_observer ps whole due n ++ last) many
-          ∙ ap (λ ls. head ++ ls ++ last) rest.1
-          ∙ ap (λ ls. head ++ (ls ++ rest.0) ++ last) lines-then
-          ∙ grouped head lines due_lines rest.0 last)
+          let many : length whole ≡ k + 1 + length more = omega (arith, length-append all more, one-more) in (
+            rest.0 ++ last,
+            ap (λ n. head ++ samples_lines zonotope_observer ps whole due n ++ last) many
+                ∙ ap (λ ls. head ++ ls ++ last) rest.1
+                ∙ ap (λ ls. head ++ (ls ++ rest.0) ++ last) lines-then
+                ∙ grouped head lines due_lines rest.0 last,
+          )
         where
           grouped : (a b e f g : List Line) → a ++ ((b ++ e) ++ f) ++ g ≡ (a ++ b) ++ (e ++ (f ++ g))
           grouped a b e f g = simp append_assoc
