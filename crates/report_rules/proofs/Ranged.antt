@@ -1,5 +1,5 @@
 -- The lines of a sample up to a refused model are in range where the intervals that they have can be printed.
-use Rattle.std.proofs.Common.{◌≡◌, ℕ, zero, suc, ◌+◌, ◌^◌, ◌<◌, ◌≤◌, ◌==◌, nat_lt, ℤ, Bool, true, false, not, ◌||◌, ◌&&◌, List, [], ◌∷◌, ◌++◌, length, map, flat_map, get_or, Option, Some, None, refl, sym, ap, ◌∙◌, arith, subst, length-append}
+use Rattle.std.proofs.Common.{◌≡◌, ℕ, ◌+◌, ◌^◌, ◌<◌, ◌≤◌, ◌==◌, nat_lt, ℤ, Bool, true, false, not, ◌&&◌, List, [], ◌∷◌, ◌++◌, length, map, flat_map, Option, Some, None, refl, ap, ◌∙◌, arith, subst, length-append}
 use Rattle.std.specs.List.{All, list_all, enumerate_from}
 use Rattle.std.proofs.lemmas.Bool.Decides.{nat_tests}
 use Rattle.std.proofs.lemmas.List.{get_or_append_left}
@@ -14,12 +14,12 @@ use Rattle.observer_step.specs.Seen.{is_printable_interval}
 use Rattle.observer_step.specs.Answers.{zonotope_observer, due_at, refutes_none, is_justified, any_justified, allows_at}
 use Rattle.model_bank.specs.Answers.{ModelAnswer, answers_from, all_allowed}
 use Rattle.model_bank.specs.Stepping.{Refusal, RefusesOffer}
-use Rattle.report_text.specs.Line.{Line, sample, pred, exclude, hull, status}
+use Rattle.report_text.specs.Line.{pred, exclude, hull, status}
 use Rattle.report_text.specs.Ranges.{is_in_range, is_model_index, is_output_index, is_state_index, is_sample_number, is_certificate}
 use Rattle.report_rules.specs.Lines.{pred_lines, hull_lines, outcome_lines, model_lines}
 use Rattle.report_rules.specs.Report.{Choice, lives_before}
 use Rattle.report_rules.specs.Replay.{AreFew, Replayed}
-use Rattle.report_rules.proofs.Placed.{both, and-true, answer_at, length-preds}
+use Rattle.report_rules.proofs.Placed.{both, and-true, answer_at}
 use Rattle.report_rules.proofs.Offered.{refused_lines, due-below, below-all, few-outputs, few-models}
 
 below-test : (n m : ℕ) → n < m → nat_lt n m ≡ true
