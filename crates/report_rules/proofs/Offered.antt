@@ -175,7 +175,8 @@ module _ (names : List (List ℕ)) (ps : List Plant) (taken : List Sample) (c : 
           (subst (λ j. IsOffer j (drop (length below + plant.outputs) (drop 1 ts)) refusal.offered) model-place placed)
 
       -- the bytes have these lines, each in range, and depart at the next
-      pub refused-departs : (v : List ℕ) → left ≡ lines_text (refused_lines k refusal) ++ v → list_all is_in_range (refused_lines k refusal) ≡ true → TakesEnough (length (refused_lines k refusal) + 1) ts rest
+      pub refused-departs : (v : List ℕ) → left ≡ lines_text (refused_lines k refusal) ++ v → list_all is_in_range (refused_lines k refusal) ≡ true
+          → TakesEnough (length (refused_lines k refusal) + 1) ts rest
           → (more : List Sample) (is_whole : Bool)
           → DepartsAt (watch names ps (all ++ more) is_whole) (length (lines_so_far names ps taken c) + length (refused_lines k refusal) + 1) bytes
       refused-departs v e ranges enough more is_whole =
@@ -183,7 +184,8 @@ module _ (names : List (List ℕ)) (ps : List Plant) (taken : List Sample) (c : 
           let lines = lines-placed cert (certificates_at zonotope_observer refuses.plants_above all k) in
           let first = outcome-begins refusal.model cert (answer_at all k plant cert).hulls (answer_at all k plant cert).is_widened (some-hull cert) in
           let due_is : due_lines names ps taken c bytes left replayed s ≡ front ++ first.0 ∷ (first.1 ++ lines.0) =
-          sym (justified-lines names ps taken c bytes left replayed s due_offers due_offers-allowed) ∙ lines.1 ∙ ap (λ ls. front ++ (ls ++ lines.0)) first.2 in
+          sym (justified-lines names ps taken c bytes left replayed s due_offers due_offers-allowed) ∙ lines.1
+          ∙ ap (λ ls. front ++ (ls ++ lines.0)) first.2 in
           line-departs names ps taken c bytes left replayed s more is_whole front first.0 (first.1 ++ lines.0) v due_is e
           (λ r. refused-differs refusal.model few-models (due_at zonotope_observer plant all k) (λ q d. omega (arith, due-below plant all k q d, few-outputs)) refusal.offered refuses.not_justified first.0 first.3 r
           front ts rest v ranges takes.short (sym takes.are ∙ e) offer-behind enough)

@@ -29,7 +29,8 @@ below-test n m h = grind (arith, nat_tests)
 abbrev pub CanBePrinted : ModelAnswer → Type 0
 CanBePrinted m = (list_all is_printable_interval m.answer.predicted ≡ true) × (list_all is_printable_interval m.answer.hulls ≡ true)
 
-preds-ranged : (i j : ℕ) (es : List (ℤ × ℤ)) → i < 16 → j + length es ≤ 6 → list_all is_printable_interval es ≡ true → list_all is_in_range (map (λ p. pred i p.0 p.1.0 p.1.1) (enumerate_from j es)) ≡ true
+preds-ranged : (i j : ℕ) (es : List (ℤ × ℤ)) → i < 16 → j + length es ≤ 6 → list_all is_printable_interval es ≡ true
+    → list_all is_in_range (map (λ p. pred i p.0 p.1.0 p.1.1) (enumerate_from j es)) ≡ true
 preds-ranged i j [] h few printed = refl
 preds-ranged i j (e ∷ es) h few printed =
     let parts = both (is_printable_interval e) (list_all is_printable_interval es) printed in
@@ -37,7 +38,8 @@ preds-ranged i j (e ∷ es) h few printed =
     and-true (is_in_range (pred i j e.0 e.1)) (list_all is_in_range (map (λ p. pred i p.0 p.1.0 p.1.1) (enumerate_from (j + 1) es)))
     (and-true (is_model_index i && is_output_index j) (is_printable_interval e) indices parts.0) (preds-ranged i (j + 1) es h (omega arith) parts.1)
 
-hulls-ranged : (i j : ℕ) (es : List (ℤ × ℤ)) → i < 16 → j + length es ≤ 8 → list_all is_printable_interval es ≡ true → list_all is_in_range (map (λ h. hull i h.0 h.1.0 h.1.1) (enumerate_from j es)) ≡ true
+hulls-ranged : (i j : ℕ) (es : List (ℤ × ℤ)) → i < 16 → j + length es ≤ 8 → list_all is_printable_interval es ≡ true
+    → list_all is_in_range (map (λ h. hull i h.0 h.1.0 h.1.1) (enumerate_from j es)) ≡ true
 hulls-ranged i j [] h few printed = refl
 hulls-ranged i j (e ∷ es) h few printed =
     let parts = both (is_printable_interval e) (list_all is_printable_interval es) printed in
@@ -46,7 +48,8 @@ hulls-ranged i j (e ∷ es) h few printed =
     (and-true (is_model_index i && is_state_index j) (is_printable_interval e) indices parts.0) (hulls-ranged i (j + 1) es h (omega arith) parts.1)
 
 -- a certificate that is justified names an output that is due
-certificate-ranged : (due : Option ℕ) (c : Certificate) → ((q : ℕ) → due ≡ Some q → q < 6) → is_justified due refutes_none (Some c) ≡ true → is_certificate c ≡ true
+certificate-ranged : (due : Option ℕ) (c : Certificate) → ((q : ℕ) → due ≡ Some q → q < 6) → is_justified due refutes_none (Some c) ≡ true
+    → is_certificate c ≡ true
 certificate-ranged (Some o) (by_out q) below h = within q o (below o refl) h
   where
     within : (q o : ℕ) → o < 6 → (q == o) ≡ true → nat_lt q 6 ≡ true
@@ -56,7 +59,8 @@ certificate-ranged None (by_out q) below h = absurd cc
 certificate-ranged None (by_rows ls) below h = absurd cc
 
 module _ (samples : List Sample) (k : ℕ) where
-  outcome-ranged : (i : ℕ) (p : Plant) (c : Option Certificate) → i < 16 → p.outputs ≤ 6 → p.states ≤ 8 → allows_at any_justified zonotope_observer p samples k c ≡ true
+  outcome-ranged : (i : ℕ) (p : Plant) (c : Option Certificate) → i < 16 → p.outputs ≤ 6 → p.states ≤ 8
+      → allows_at any_justified zonotope_observer p samples k c ≡ true
       → list_all is_printable_interval (answer_at samples k p c).hulls ≡ true
       → list_all is_in_range (outcome_lines i c (answer_at samples k p c).hulls (answer_at samples k p c).is_widened) ≡ true
   outcome-ranged i p (Some cert) h outs states allowed printed =
@@ -70,8 +74,10 @@ module _ (samples : List Sample) (k : ℕ) where
       list_all-append is_in_range (hull_lines i hs) (last ∷ [])
       ∙ and-true (list_all is_in_range (hull_lines i hs)) (list_all is_in_range (last ∷ [])) (hulls-ranged i 0 hs h few printed) (and-true (is_in_range last) true (below-test i 16 h) refl)
 
-  model-ranged : (i : ℕ) (p : Plant) (c : Option Certificate) → i < 16 → p.outputs ≤ 6 → p.states ≤ 8 → allows_at any_justified zonotope_observer p samples k c ≡ true
-      → CanBePrinted (record { index = i; answer = answer_at samples k p c }) → list_all is_in_range (model_lines (record { index = i; answer = answer_at samples k p c })) ≡ true
+  model-ranged : (i : ℕ) (p : Plant) (c : Option Certificate) → i < 16 → p.outputs ≤ 6 → p.states ≤ 8
+      → allows_at any_justified zonotope_observer p samples k c ≡ true
+      → CanBePrinted (record { index = i; answer = answer_at samples k p c })
+      → list_all is_in_range (model_lines (record { index = i; answer = answer_at samples k p c })) ≡ true
   model-ranged i p c h outs states allowed printed =
       let a = answer_at samples k p c in
       let few : 0 + length a.predicted ≤ 6 = omega (arith, length-tabulate p.outputs (out_of p (sample_at samples k).inputs (zonotope_observer.predicted p samples k)), outs) in
@@ -81,8 +87,10 @@ module _ (samples : List Sample) (k : ℕ) where
 
   -- the lines of all models
   pub models-ranged : (i : ℕ) (ps : List Plant) (lives : List Bool) (cs : List (Option Certificate)) → i + length ps ≤ 16
-      → All (λ (p : Plant). p.outputs ≤ 6) ps → All (λ (p : Plant). p.states ≤ 8) ps → all_allowed any_justified zonotope_observer ps lives cs samples k ≡ true
-      → All CanBePrinted (answers_from zonotope_observer i ps lives cs samples k) → list_all is_in_range (flat_map model_lines (answers_from zonotope_observer i ps lives cs samples k)) ≡ true
+      → All (λ (p : Plant). p.outputs ≤ 6) ps → All (λ (p : Plant). p.states ≤ 8) ps
+      → all_allowed any_justified zonotope_observer ps lives cs samples k ≡ true
+      → All CanBePrinted (answers_from zonotope_observer i ps lives cs samples k)
+      → list_all is_in_range (flat_map model_lines (answers_from zonotope_observer i ps lives cs samples k)) ≡ true
   models-ranged i [] lives cs few outs states allowed printed = refl
   models-ranged i (p ∷ ps) [] cs few outs states allowed printed = refl
   models-ranged i (p ∷ ps) (live ∷ lives) [] few outs states allowed printed = refl
@@ -101,9 +109,11 @@ All-front : {A : Type 0} (P : A → Type 0) (xs ys : List A) → All P (xs ++ ys
 All-front P xs ys all k d l = subst P (get_or_append_left xs ys d k l) (all k d (omega (arith, length-append xs ys)))
 
 -- the lines of the sample up to the predictions of the refused model
-pub refused_lines-ranged : (names : List (List ℕ)) (ps : List Plant) (taken : List Sample) (c : Choice) (bytes left : List ℕ) → Replayed names ps taken c bytes left → (s : Sample)
+pub refused_lines-ranged : (names : List (List ℕ)) (ps : List Plant) (taken : List Sample) (c : Choice) (bytes left : List ℕ)
+    → Replayed names ps taken c bytes left → (s : Sample)
     (os : List (Option Certificate)) (refusal : Refusal) → RefusesOffer s os ps taken (lives_before c (length ps) (length taken)) refusal
-    → AreFew ps → All (λ (p : Plant). p.states ≤ 8) ps → length taken < 2 ^ 63 → All CanBePrinted refusal.before → list_all is_printable_interval refusal.predicted ≡ true
+    → AreFew ps → All (λ (p : Plant). p.states ≤ 8) ps → length taken < 2 ^ 63 → All CanBePrinted refusal.before
+    → list_all is_printable_interval refusal.predicted ≡ true
     → list_all is_in_range (refused_lines (length taken) refusal) ≡ true
 refused_lines-ranged names ps taken c bytes left replayed s os refusal refuses few few_states number printed last =
     let k = length taken in
