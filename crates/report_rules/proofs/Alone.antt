@@ -29,8 +29,10 @@ justified-due None None h = refl
 
 module _ (samples : List Sample) (k : ℕ) where
   -- the answers with what is justified are those with what is due
-  pub answers-due : (i : ℕ) (ps : List Plant) (lives : List Bool) (cs : List (Option Certificate)) → all_allowed any_justified zonotope_observer ps lives cs samples k ≡ true
-      → answers_from zonotope_observer i ps lives cs samples k ≡ answers_from zonotope_observer i ps lives (certificates_at zonotope_observer ps samples k) samples k
+  pub answers-due : (i : ℕ) (ps : List Plant) (lives : List Bool) (cs : List (Option Certificate))
+      → all_allowed any_justified zonotope_observer ps lives cs samples k ≡ true
+      → answers_from zonotope_observer i ps lives cs samples k
+      ≡ answers_from zonotope_observer i ps lives (certificates_at zonotope_observer ps samples k) samples k
   answers-due i [] lives cs h = refl
   answers-due i (p ∷ ps) [] cs h = refl
   answers-due i (p ∷ ps) (live ∷ lives) [] h = absurd cc
@@ -38,17 +40,21 @@ module _ (samples : List Sample) (k : ℕ) where
       by (answers-due (i + 1) ps lives cs) live (allows_at any_justified zonotope_observer p samples k c) (justified-due (due_at zonotope_observer p samples k) c) h
     where
       by : (all_allowed any_justified zonotope_observer ps lives cs samples k ≡ true
-          → answers_from zonotope_observer (i + 1) ps lives cs samples k ≡ answers_from zonotope_observer (i + 1) ps lives (certificates_at zonotope_observer ps samples k) samples k)
-          → (live allowed : Bool) → (allowed ≡ true → c ≡ certificate_at zonotope_observer p samples k) → (not live || allowed) && all_allowed any_justified zonotope_observer ps lives cs samples k ≡ true
+          → answers_from zonotope_observer (i + 1) ps lives cs samples k
+          ≡ answers_from zonotope_observer (i + 1) ps lives (certificates_at zonotope_observer ps samples k) samples k)
+          → (live allowed : Bool) → (allowed ≡ true → c ≡ certificate_at zonotope_observer p samples k)
+          → (not live || allowed) && all_allowed any_justified zonotope_observer ps lives cs samples k ≡ true
           → answer_if live i (answer_with zonotope_observer p samples k c) (answers_from zonotope_observer (i + 1) ps lives cs samples k)
           ≡ answer_if live i (answer_with zonotope_observer p samples k (certificate_at zonotope_observer p samples k)) (answers_from zonotope_observer (i + 1) ps lives (certificates_at zonotope_observer ps samples k) samples k)
       by rest true true is h =
-          ap (λ c. answer_if true i (answer_with zonotope_observer p samples k c) (answers_from zonotope_observer (i + 1) ps lives cs samples k)) (is refl) ∙ ap (answer_if true i (answer_with zonotope_observer p samples k (certificate_at zonotope_observer p samples k))) (rest h)
+          ap (λ c. answer_if true i (answer_with zonotope_observer p samples k c) (answers_from zonotope_observer (i + 1) ps lives cs samples k)) (is refl)
+          ∙ ap (answer_if true i (answer_with zonotope_observer p samples k (certificate_at zonotope_observer p samples k))) (rest h)
       by rest true false is h = absurd cc
       by rest false allowed is h = rest h
 
   -- and so are the models that stay live
-  pub lives-due : (ps : List Plant) (lives : List Bool) (cs : List (Option Certificate)) → all_allowed any_justified zonotope_observer ps lives cs samples k ≡ true
+  pub lives-due : (ps : List Plant) (lives : List Bool) (cs : List (Option Certificate))
+      → all_allowed any_justified zonotope_observer ps lives cs samples k ≡ true
       → live_after lives cs ≡ live_after lives (certificates_at zonotope_observer ps samples k)
   lives-due [] [] cs h = refl
   lives-due [] (live ∷ lives) cs h = absurd cc
@@ -58,7 +64,8 @@ module _ (samples : List Sample) (k : ℕ) where
       by (lives-due ps lives cs) live (allows_at any_justified zonotope_observer p samples k c) (justified-due (due_at zonotope_observer p samples k) c) h
     where
       by : (all_allowed any_justified zonotope_observer ps lives cs samples k ≡ true → live_after lives cs ≡ live_after lives (certificates_at zonotope_observer ps samples k))
-          → (live allowed : Bool) → (allowed ≡ true → c ≡ certificate_at zonotope_observer p samples k) → (not live || allowed) && all_allowed any_justified zonotope_observer ps lives cs samples k ≡ true
+          → (live allowed : Bool) → (allowed ≡ true → c ≡ certificate_at zonotope_observer p samples k)
+          → (not live || allowed) && all_allowed any_justified zonotope_observer ps lives cs samples k ≡ true
           → (live && is_none c) ∷ live_after lives cs ≡ (live && is_none (certificate_at zonotope_observer p samples k)) ∷ live_after lives (certificates_at zonotope_observer ps samples k)
       by rest true true is h = let same = is refl in let more = rest h in cc (ap is_none same)
       by rest true false is h = absurd cc
@@ -68,8 +75,10 @@ module _ (samples : List Sample) (k : ℕ) where
   abbrev answer_by : List ModelAnswer → List Bool → SampleAnswer
   answer_by models lives = record { k = k; models = models; possible = lives; verdict = verdict_of (possible_models lives) }
 
-  pub sample_answer-due : (ps : List Plant) (lives : List Bool) (cs : List (Option Certificate)) → all_allowed any_justified zonotope_observer ps lives cs samples k ≡ true
-      → sample_answer zonotope_observer ps lives cs samples k ≡ sample_answer zonotope_observer ps lives (certificates_at zonotope_observer ps samples k) samples k
+  pub sample_answer-due : (ps : List Plant) (lives : List Bool) (cs : List (Option Certificate))
+      → all_allowed any_justified zonotope_observer ps lives cs samples k ≡ true
+      → sample_answer zonotope_observer ps lives cs samples k
+      ≡ sample_answer zonotope_observer ps lives (certificates_at zonotope_observer ps samples k) samples k
   sample_answer-due ps lives cs h =
       ap (λ ms. answer_by ms (live_after lives cs)) (answers-due 0 ps lives cs h)
       ∙ ap (answer_by (answers_from zonotope_observer 0 ps lives (certificates_at zonotope_observer ps samples k) samples k)) (lives-due ps lives cs h)
@@ -89,7 +98,8 @@ module _ (ps : List Plant) (samples : List Sample) (c : Choice) where
       ∙ ap (λ lives. live_after lives (certificates_at zonotope_observer ps samples n)) (lives_before-due n (λ k l. allowed k (omega arith)))
 
   -- and so are the lines
-  pub samples_lines-due : (n : ℕ) → IsAllowedTo n → samples_lines zonotope_observer ps samples c n ≡ samples_lines zonotope_observer ps samples (due_choice zonotope_observer ps samples) n
+  pub samples_lines-due : (n : ℕ) → IsAllowedTo n → samples_lines zonotope_observer ps samples c n
+      ≡ samples_lines zonotope_observer ps samples (due_choice zonotope_observer ps samples) n
   unfolding samples_lines
   samples_lines-due zero allowed = refl
   samples_lines-due (suc n) allowed =
@@ -126,7 +136,8 @@ abbrev pub AllAgree : List Line → List Line → Type 0
 AllAgree S S' = (n : ℕ) (r r' : List ℕ) → n ≤ length S → n ≤ length S' → lines_text (take n S) ++ r ≡ lines_text (take n S') ++ r' → take n S ≡ take n S'
 
 -- two justified reports agree as far as their texts do
-pub reports-agree : (w : Watch) (c c' : Choice) → AllowedBefore any_justified zonotope_observer w c (length w.samples) → AllowedBefore any_justified zonotope_observer w c' (length w.samples)
+pub reports-agree : (w : Watch) (c c' : Choice) → AllowedBefore any_justified zonotope_observer w c (length w.samples)
+    → AllowedBefore any_justified zonotope_observer w c' (length w.samples)
     → AllAgree (report zonotope_observer w c) (report zonotope_observer w c')
 reports-agree w c c' allowed allowed' n r r' l l' e = ap (take n) (report-due w c allowed ∙ sym (report-due w c' allowed'))
 
@@ -135,7 +146,8 @@ nothing-behind ls [] e = refl
 nothing-behind ls (l ∷ stuff) e = absurd (omega (arith, ap length e, length-append ls (l ∷ stuff)))
 
 -- no justified report goes on where another ends
-pub reports-end : (w : Watch) (c c' : Choice) → AllowedBefore any_justified zonotope_observer w c (length w.samples) → AllowedBefore any_justified zonotope_observer w c' (length w.samples)
+pub reports-end : (w : Watch) (c c' : Choice) → AllowedBefore any_justified zonotope_observer w c (length w.samples)
+    → AllowedBefore any_justified zonotope_observer w c' (length w.samples)
     → (stuff : List Line) → report zonotope_observer w c' ≡ report zonotope_observer w c ++ stuff → stuff ≡ []
 reports-end w c c' allowed allowed' stuff e =
     nothing-behind (report zonotope_observer w c) stuff (report-due w c allowed ∙ sym (report-due w c' allowed') ∙ e)

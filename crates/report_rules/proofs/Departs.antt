@@ -16,7 +16,8 @@ pub lines_text-append : (a b : List Line) → lines_text (a ++ b) ≡ lines_text
 lines_text-append a b = flat_map-append put_text a b
 
 -- one line behind others, and what follows
-pub lines_text-past : (a : List Line) (l : Line) (b : List Line) (rest : List ℕ) → lines_text (a ++ l ∷ b) ++ rest ≡ lines_text a ++ (put_text l ++ (lines_text b ++ rest))
+pub lines_text-past : (a : List Line) (l : Line) (b : List Line) (rest : List ℕ)
+    → lines_text (a ++ l ∷ b) ++ rest ≡ lines_text a ++ (put_text l ++ (lines_text b ++ rest))
 lines_text-past a l b rest =
     ap (λ t. t ++ rest) (lines_text-append a (l ∷ b)) ∙ append_assoc (lines_text a) (put_text l ++ lines_text b) rest
     ∙ ap (λ t. lines_text a ++ t) (append_assoc (put_text l) (lines_text b) rest)
@@ -39,7 +40,8 @@ less-one : (n : ℕ) → n ≡ n + 1 - 1
 less-one n = omega arith
 
 -- the report goes on with a line, and the bytes do not
-pub departs : (w : Watch) (a : List Line) (l : Line) (b : List Line) (bytes v : List ℕ) → due_report w ≡ a ++ l ∷ b → bytes ≡ lines_text a ++ v → ((r : List ℕ) → v ≢ put_text l ++ r)
+pub departs : (w : Watch) (a : List Line) (l : Line) (b : List Line) (bytes v : List ℕ) → due_report w ≡ a ++ l ∷ b → bytes ≡ lines_text a ++ v
+    → ((r : List ℕ) → v ≢ put_text l ++ r)
     → DepartsAt w (length a + 1) bytes
 departs w a l b bytes v whole is differs = record {
   first_bad = record {
@@ -66,7 +68,8 @@ departs w a l b bytes v whole is differs = record {
         (h.3 ∙ ap (λ ls. lines_text ls ++ h.2) (one-report w h.0 h.1 ∙ whole))
 
 -- the report ends, and the bytes go on
-pub departs-behind : (names : List (List ℕ)) (ps : List Plant) (samples : List Sample) (a : List Line) (bytes v : List ℕ) → due_report (watch names ps samples true) ≡ a
+pub departs-behind : (names : List (List ℕ)) (ps : List Plant) (samples : List Sample) (a : List Line) (bytes v : List ℕ)
+    → due_report (watch names ps samples true) ≡ a
     → bytes ≡ lines_text a ++ v → v ≢ [] → DepartsAt (watch names ps samples true) (length a + 1) bytes
 departs-behind names ps samples a bytes v whole is some = record {
   first_bad = record {
@@ -97,7 +100,8 @@ departs-behind names ps samples a bytes v whole is some = record {
 -- ---- in the head
 
 -- the line j of the head does not stand behind those before it
-pub head-departs : (names : List (List ℕ)) (ps : List Plant) (samples : List Sample) (is_whole : Bool) (j : ℕ) (d : Line) (bytes left : List ℕ) → j < length (head_lines names)
+pub head-departs : (names : List (List ℕ)) (ps : List Plant) (samples : List Sample) (is_whole : Bool) (j : ℕ) (d : Line) (bytes left : List ℕ)
+    → j < length (head_lines names)
     → bytes ≡ lines_text (take j (head_lines names)) ++ left → ((r : List ℕ) → left ≢ put_text (get_or (head_lines names) j d) ++ r)
     → DepartsAt (watch names ps samples is_whole) (j + 1) bytes
 head-departs names ps samples is_whole j d bytes left l is differs =
@@ -127,7 +131,8 @@ module _ (names : List (List ℕ)) (ps : List Plant) (samples : List Sample) (c 
   end-satisfies e = (
     so_far ++ end (length samples) ∷ [],
     due-justified (watch names ps samples true) (so_far ++ end (length samples) ∷ []) (report-so_far true),
-    replayed.text ∙ ap (λ t. lines_text so_far ++ t) (e ∙ sym (append-nil (put_text (end (length samples))))) ∙ sym (lines_text-append so_far (end (length samples) ∷ [])),
+    replayed.text ∙ ap (λ t. lines_text so_far ++ t) (e ∙ sym (append-nil (put_text (end (length samples)))))
+    ∙ sym (lines_text-append so_far (end (length samples) ∷ []))
   )
 
   -- another line, or none, stands in its place
@@ -149,5 +154,5 @@ module _ (names : List (List ℕ)) (ps : List Plant) (samples : List Sample) (c 
     so_far,
     due-justified (watch names ps samples false) so_far (report-so_far false ∙ append-nil so_far),
     left,
-    replayed.text,
+    replayed.text
   )

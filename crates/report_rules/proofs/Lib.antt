@@ -8,3 +8,4 @@ pub mod Replays
 pub mod Placed
 pub mod Refused
 pub mod Offered
+pub mod Ranged

@@ -38,7 +38,7 @@ first-below (suc n) test q e = by (first_below n test) (first-below n test q) (t
     by None less true e = let same : n ≡ q = cc in omega (arith, same)
     by None less false e = absurd cc
 
-due-below : (p : Plant) (samples : List Sample) (k q : ℕ) → due_at zonotope_observer p samples k ≡ Some q → q < p.outputs
+pub due-below : (p : Plant) (samples : List Sample) (k q : ℕ) → due_at zonotope_observer p samples k ≡ Some q → q < p.outputs
 unfolding due
 due-below p samples k q e =
     first-below p.outputs (λ o. reading_misses (out_of p (sample_at samples k).inputs (zonotope_observer.predicted p samples k) o) (reading_at (sample_at samples k) o)) q e
@@ -140,54 +140,57 @@ module _ (names : List (List ℕ)) (ps : List Plant) (taken : List Sample) (c : 
 
   -- ---- its offer
 
-  module _ (few : AreFew ps) (ts : List (List ℕ)) (rest : List ℕ) (takes : Takes ps lives left ts rest os) where
-    below-all : length refuses.plants_below < length ps
+  module _ (few : AreFew ps) where
+    pub below-all : length refuses.plants_below < length ps
     below-all = omega (arith, ap length refuses.plants_are, length-append refuses.plants_below (plant ∷ refuses.plants_above))
 
     plant-placed : get_or ps (length refuses.plants_below) plant ≡ plant
     plant-placed = ap (λ qs. get_or qs (length refuses.plants_below) plant) refuses.plants_are ∙ at-length refuses.plants_below plant refuses.plants_above plant
 
-    few-outputs : plant.outputs ≤ 6
+    pub few-outputs : plant.outputs ≤ 6
     few-outputs = subst (λ (p : Plant). p.outputs ≤ 6) plant-placed (few.few_outputs (length refuses.plants_below) plant below-all)
 
     some-state : 1 ≤ plant.states
     some-state = subst (λ (p : Plant). 1 ≤ p.states) plant-placed (few.some_state (length refuses.plants_below) plant below-all)
 
-    few-models : refusal.model < 16
+    pub few-models : refusal.model < 16
     few-models = omega (arith, few.few_models, below-all, refuses.model_is)
 
-    -- the offer stands behind these lines
-    offer-behind : IsOffer refusal.model (drop (length front) ts) refusal.offered
-    offer-behind =
-        let offers : OffersAre 0 (refuses.plants_below ++ plant ∷ refuses.plants_above) (refuses.lives_below ++ true ∷ refuses.lives_above) (drop 1 ts) (refuses.offers_below ++ refusal.offered ∷ refuses.offers_above) =
-        subst (λ cs. OffersAre 0 (refuses.plants_below ++ plant ∷ refuses.plants_above) (refuses.lives_below ++ true ∷ refuses.lives_above) (drop 1 ts) cs) refuses.offers_are
-        (subst (λ ls. OffersAre 0 (refuses.plants_below ++ plant ∷ refuses.plants_above) ls (drop 1 ts) os) refuses.lives_are
-        (subst (λ qs. OffersAre 0 qs lives (drop 1 ts) os) refuses.plants_are takes.offers)) in
-        let below = flat_map model_lines (answers_from zonotope_observer 0 refuses.plants_below refuses.lives_below refuses.offers_below all k) in
-        let placed = offer-placed all k plant refuses.plants_above refuses.lives_above refusal.offered refuses.offers_above 0 refuses.plants_below refuses.lives_below refuses.offers_below (drop 1 ts)
-        refuses.as_many_lives many-offers offers in
-        let same : length below ≡ length (flat_map model_lines refusal.before) = ap (λ rs. length (flat_map model_lines rs)) (sym refuses.before_are) in
-        let outs : length (pred_lines refusal.model refusal.predicted) ≡ plant.outputs =
-        ap (λ ps. length (pred_lines refusal.model ps)) refuses.predicted_are ∙ length-preds all k refusal.model plant refusal.offered in
-        let many : 1 + (length below + plant.outputs) ≡ length front =
-        omega (arith, same, outs, length-append (flat_map model_lines refusal.before) (pred_lines refusal.model refusal.predicted)) in
-        subst (λ us. IsOffer refusal.model us refusal.offered) (drop-drop (length below + plant.outputs) 1 ts ∙ ap (λ n. drop n ts) many)
-        (subst (λ j. IsOffer j (drop (length below + plant.outputs) (drop 1 ts)) refusal.offered) model-place placed)
+    module _ (ts : List (List ℕ)) (rest : List ℕ) (takes : Takes ps lives left ts rest os) where
+      -- the offer stands behind these lines
+      offer-behind : IsOffer refusal.model (drop (length front) ts) refusal.offered
+      offer-behind =
+          let offers : OffersAre 0 (refuses.plants_below ++ plant ∷ refuses.plants_above) (refuses.lives_below ++ true ∷ refuses.lives_above) (drop 1 ts) (refuses.offers_below ++ refusal.offered ∷ refuses.offers_above) =
+          subst (λ cs. OffersAre 0 (refuses.plants_below ++ plant ∷ refuses.plants_above) (refuses.lives_below ++ true ∷ refuses.lives_above) (drop 1 ts) cs) refuses.offers_are
+          (subst (λ ls. OffersAre 0 (refuses.plants_below ++ plant ∷ refuses.plants_above) ls (drop 1 ts) os) refuses.lives_are
+          (subst (λ qs. OffersAre 0 qs lives (drop 1 ts) os) refuses.plants_are takes.offers)) in
+          let below = flat_map model_lines (answers_from zonotope_observer 0 refuses.plants_below refuses.lives_below refuses.offers_below all k) in
+          let placed = offer-placed all k plant refuses.plants_above refuses.lives_above refusal.offered refuses.offers_above 0 refuses.plants_below refuses.lives_below refuses.offers_below (drop 1 ts)
+          refuses.as_many_lives many-offers offers in
+          let same : length below ≡ length (flat_map model_lines refusal.before) = ap (λ rs. length (flat_map model_lines rs)) (sym refuses.before_are) in
+          let outs : length (pred_lines refusal.model refusal.predicted) ≡ plant.outputs =
+          ap (λ ps. length (pred_lines refusal.model ps)) refuses.predicted_are ∙ length-preds all k refusal.model plant refusal.offered in
+          let many : 1 + (length below + plant.outputs) ≡ length front =
+          omega (arith, same, outs, length-append (flat_map model_lines refusal.before) (pred_lines refusal.model refusal.predicted)) in
+          subst (λ us. IsOffer refusal.model us refusal.offered) (drop-drop (length below + plant.outputs) 1 ts ∙ ap (λ n. drop n ts) many)
+          (subst (λ j. IsOffer j (drop (length below + plant.outputs) (drop 1 ts)) refusal.offered) model-place placed)
 
-    -- the bytes have these lines, each in range, and depart at the next
-    pub refused-departs : (v : List ℕ) → left ≡ lines_text (refused_lines k refusal) ++ v → list_all is_in_range (refused_lines k refusal) ≡ true → TakesEnough (length (refused_lines k refusal) + 1) ts rest
-        → (more : List Sample) (is_whole : Bool)
-        → DepartsAt (watch names ps (all ++ more) is_whole) (length (lines_so_far names ps taken c) + length (refused_lines k refusal) + 1) bytes
-    refused-departs v e ranges enough more is_whole =
-        let cert = certificate_at zonotope_observer plant all k in
-        let lines = lines-placed cert (certificates_at zonotope_observer refuses.plants_above all k) in
-        let first = outcome-begins refusal.model cert (answer_at all k plant cert).hulls (answer_at all k plant cert).is_widened (some-hull cert) in
-        let due_is : due_lines names ps taken c bytes left replayed s ≡ front ++ first.0 ∷ (first.1 ++ lines.0) =
-        sym (justified-lines names ps taken c bytes left replayed s due_offers due_offers-allowed) ∙ lines.1 ∙ ap (λ ls. front ++ (ls ++ lines.0)) first.2 in
-        line-departs names ps taken c bytes left replayed s more is_whole front first.0 (first.1 ++ lines.0) v due_is e
-        (λ r. refused-differs refusal.model few-models (due_at zonotope_observer plant all k) (λ q d. omega (arith, due-below plant all k q d, few-outputs)) refusal.offered refuses.not_justified first.0 first.3 r
-        front ts rest v ranges takes.short (sym takes.are ∙ e) offer-behind enough)
-      where
-        some-hull : (cert : Option Certificate) → cert ≡ None → 1 ≤ length (answer_at all k plant cert).hulls
-        some-hull None e = omega (arith, length-tabulate plant.states (hull_of (zonotope_observer.corrected plant all k)), some-state)
-        some-hull (Some x) e = absurd cc
+      -- the bytes have these lines, each in range, and depart at the next
+      pub refused-departs : (v : List ℕ) → left ≡ lines_text (refused_lines k refusal) ++ v → list_all is_in_range (refused_lines k refusal) ≡ true
+          → TakesEnough (length (refused_lines k refusal) + 1) ts rest
+          → (more : List Sample) (is_whole : Bool)
+          → DepartsAt (watch names ps (all ++ more) is_whole) (length (lines_so_far names ps taken c) + length (refused_lines k refusal) + 1) bytes
+      refused-departs v e ranges enough more is_whole =
+          let cert = certificate_at zonotope_observer plant all k in
+          let lines = lines-placed cert (certificates_at zonotope_observer refuses.plants_above all k) in
+          let first = outcome-begins refusal.model cert (answer_at all k plant cert).hulls (answer_at all k plant cert).is_widened (some-hull cert) in
+          let due_is : due_lines names ps taken c bytes left replayed s ≡ front ++ first.0 ∷ (first.1 ++ lines.0) =
+          sym (justified-lines names ps taken c bytes left replayed s due_offers due_offers-allowed) ∙ lines.1
+          ∙ ap (λ ls. front ++ (ls ++ lines.0)) first.2 in
+          line-departs names ps taken c bytes left replayed s more is_whole front first.0 (first.1 ++ lines.0) v due_is e
+          (λ r. refused-differs refusal.model few-models (due_at zonotope_observer plant all k) (λ q d. omega (arith, due-below plant all k q d, few-outputs)) refusal.offered refuses.not_justified first.0 first.3 r
+          front ts rest v ranges takes.short (sym takes.are ∙ e) offer-behind enough)
+        where
+          some-hull : (cert : Option Certificate) → cert ≡ None → 1 ≤ length (answer_at all k plant cert).hulls
+          some-hull None e = omega (arith, length-tabulate plant.states (hull_of (zonotope_observer.corrected plant all k)), some-state)
+          some-hull (Some x) e = absurd cc

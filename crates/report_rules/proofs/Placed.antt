@@ -21,7 +21,7 @@ pub both : (a b : Bool) → (a && b) ≡ true → (a ≡ true) × (b ≡ true)
 both true b h = (refl, h)
 both false b h = absurd cc
 
-and-true : (a b : Bool) → a ≡ true → b ≡ true → a && b ≡ true
+pub and-true : (a b : Bool) → a ≡ true → b ≡ true → a && b ≡ true
 and-true true b h k = k
 and-true false b h k = absurd cc
 
@@ -48,7 +48,8 @@ module _ (samples : List Sample) (k : ℕ) where
       length-numbered (λ p. pred i p.0 p.1.0 p.1.1) 0 (answer_at p c).predicted
       ∙ length-tabulate p.outputs (out_of p (sample_at samples k).inputs (zonotope_observer.predicted p samples k))
 
-  length-outcome : (i : ℕ) (p : Plant) (c : Option Certificate) → length (outcome_lines i c (answer_at p c).hulls (answer_at p c).is_widened) ≡ (if is_some c then 1 else p.states + 1)
+  length-outcome : (i : ℕ) (p : Plant) (c : Option Certificate)
+      → length (outcome_lines i c (answer_at p c).hulls (answer_at p c).is_widened) ≡ (if is_some c then 1 else p.states + 1)
   length-outcome i p (Some cert) = refl
   length-outcome i p None =
       let hs = hulls p (zonotope_observer.corrected p samples k) in
@@ -64,7 +65,8 @@ module _ (samples : List Sample) (k : ℕ) where
 
   -- ---- as many certificates as models
 
-  pub length-allowed : (ps : List Plant) (lives : List Bool) (cs : List (Option Certificate)) → all_allowed any_justified zonotope_observer ps lives cs samples k ≡ true
+  pub length-allowed : (ps : List Plant) (lives : List Bool) (cs : List (Option Certificate))
+      → all_allowed any_justified zonotope_observer ps lives cs samples k ≡ true
       → (length lives ≡ length ps) × (length cs ≡ length ps)
   length-allowed [] [] [] h = (refl, refl)
   length-allowed [] [] (c ∷ cs) h = absurd cc
@@ -84,7 +86,8 @@ module _ (samples : List Sample) (k : ℕ) where
   pub certificate-allowed : (p : Plant) → allows_at any_justified zonotope_observer p samples k (certificate_at zonotope_observer p samples k) ≡ true
   certificate-allowed p = due-allowed (due_at zonotope_observer p samples k)
 
-  pub dues-allowed : (ps : List Plant) (lives : List Bool) → length lives ≡ length ps → all_allowed any_justified zonotope_observer ps lives (certificates_at zonotope_observer ps samples k) samples k ≡ true
+  pub dues-allowed : (ps : List Plant) (lives : List Bool) → length lives ≡ length ps
+      → all_allowed any_justified zonotope_observer ps lives (certificates_at zonotope_observer ps samples k) samples k ≡ true
   dues-allowed [] [] e = refl
   dues-allowed [] (live ∷ lives) e = absurd cc
   dues-allowed (p ∷ ps) [] e = absurd cc
@@ -101,7 +104,8 @@ module _ (samples : List Sample) (k : ℕ) where
 
   module _ (p : Plant) (above : List Plant) (lives_above : List Bool) (c : Option Certificate) (cs_above : List (Option Certificate)) where
     -- the answers on those below, on it, and on those above
-    pub answers-placed : (i : ℕ) (below : List Plant) (lives : List Bool) (cs : List (Option Certificate)) → length lives ≡ length below → length cs ≡ length below
+    pub answers-placed : (i : ℕ) (below : List Plant) (lives : List Bool) (cs : List (Option Certificate)) → length lives ≡ length below
+        → length cs ≡ length below
         → answers_from zonotope_observer i (below ++ p ∷ above) (lives ++ true ∷ lives_above) (cs ++ c ∷ cs_above) samples k
         ≡ answers_from zonotope_observer i below lives cs samples k
         ++ record { index = i + length below; answer = answer_at p c } ∷ answers_from zonotope_observer (i + length below + 1) above lives_above cs_above samples k
@@ -120,8 +124,10 @@ module _ (samples : List Sample) (k : ℕ) where
         ∙ if-append live i (answer_at q d) (answers_from zonotope_observer (i + 1) below lives cs samples k) (behind (i + suc (length below)))
 
     -- what is justified for each
-    pub allowed-placed : (below : List Plant) (lives : List Bool) (cs : List (Option Certificate)) → all_allowed any_justified zonotope_observer below lives cs samples k ≡ true
-        → allows_at any_justified zonotope_observer p samples k c ≡ true → all_allowed any_justified zonotope_observer above lives_above cs_above samples k ≡ true
+    pub allowed-placed : (below : List Plant) (lives : List Bool) (cs : List (Option Certificate))
+        → all_allowed any_justified zonotope_observer below lives cs samples k ≡ true
+        → allows_at any_justified zonotope_observer p samples k c ≡ true
+        → all_allowed any_justified zonotope_observer above lives_above cs_above samples k ≡ true
         → all_allowed any_justified zonotope_observer (below ++ p ∷ above) (lives ++ true ∷ lives_above) (cs ++ c ∷ cs_above) samples k ≡ true
     allowed-placed [] [] [] h here over = and-true (allows_at any_justified zonotope_observer p samples k c) (all_allowed any_justified zonotope_observer above lives_above cs_above samples k) here over
     allowed-placed [] [] (d ∷ cs) h here over = absurd cc
@@ -135,7 +141,8 @@ module _ (samples : List Sample) (k : ℕ) where
         (allowed-placed below lives cs parts.1 here over)
 
     -- its offer stands behind the lines of those below and its own predictions
-    pub offer-placed : (i : ℕ) (below : List Plant) (lives : List Bool) (cs : List (Option Certificate)) (ts : List (List ℕ)) → length lives ≡ length below → length cs ≡ length below
+    pub offer-placed : (i : ℕ) (below : List Plant) (lives : List Bool) (cs : List (Option Certificate)) (ts : List (List ℕ)) → length lives ≡ length below
+        → length cs ≡ length below
         → OffersAre i (below ++ p ∷ above) (lives ++ true ∷ lives_above) ts (cs ++ c ∷ cs_above)
         → IsOffer (i + length below) (drop (length (flat_map model_lines (answers_from zonotope_observer i below lives cs samples k)) + p.outputs) ts) c
     offer-placed i [] [] [] ts e f h =

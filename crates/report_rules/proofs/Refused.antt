@@ -16,7 +16,8 @@ use Rattle.report_rules.proofs.Placed.{both}
 
 -- ---- lines that end at their first feed
 
-feed-fronts : (xs ys rest rest' : List ℕ) → list_any is_feed xs ≡ false → list_any is_feed ys ≡ false → xs ++ 10 ∷ rest ≡ ys ++ 10 ∷ rest' → (xs ≡ ys) × (rest ≡ rest')
+feed-fronts : (xs ys rest rest' : List ℕ) → list_any is_feed xs ≡ false → list_any is_feed ys ≡ false → xs ++ 10 ∷ rest ≡ ys ++ 10 ∷ rest'
+    → (xs ≡ ys) × (rest ≡ rest')
 feed-fronts [] [] rest rest' h g e = (refl, cc)
 feed-fronts [] (y ∷ ys) rest rest' h g e =
     let is : y ≡ 10 = cc in
@@ -73,7 +74,8 @@ module _ (rest v : List ℕ) where
       ((list_all is_short_line (drop (length ls) ts) ≡ true) × (with_feeds (drop (length ls) ts) ++ rest ≡ v) × (length ls ≤ length ts))
       ⊎ ((length ts < length ls) × StartsLine rest)
 
-  aligned : (ls : List Line) (ts : List (List ℕ)) → list_all is_in_range ls ≡ true → list_all is_short_line ts ≡ true → with_feeds ts ++ rest ≡ lines_text ls ++ v → Aligned ls ts
+  aligned : (ls : List Line) (ts : List (List ℕ)) → list_all is_in_range ls ≡ true → list_all is_short_line ts ≡ true
+      → with_feeds ts ++ rest ≡ lines_text ls ++ v → Aligned ls ts
   aligned [] ts h short e = inl (short, e, omega arith)
   aligned (l ∷ ls) [] h short e =
       inr (omega arith, (l, (both (is_in_range l) (list_all is_in_range ls) h).0, lines_text ls ++ v, e ∙ append_assoc (put_text l) (lines_text ls) v))
@@ -130,7 +132,8 @@ module _ (i : ℕ) (few : i < 16) (due : Option ℕ) (below : (q : ℕ) → due 
       letters : ◌≡◌ {A = ℕ} 120 104 → ⊥
       letters e = absurd (omega (arith, e))
 
-      by : (due : Option ℕ) (offered : Option Certificate) → ((q : ℕ) → due ≡ Some q → q < 6) → is_justified due refutes_none offered ≡ false → IsOutcome i (option_map by_out due) l
+      by : (due : Option ℕ) (offered : Option Certificate) → ((q : ℕ) → due ≡ Some q → q < 6) → is_justified due refutes_none offered ≡ false
+          → IsOutcome i (option_map by_out due) l
           → IsOffer i (t ∷ []) offered → ⊥
       by None None below refused is offer = absurd cc
       by None (Some c) below refused is offer =
@@ -150,7 +153,8 @@ module _ (i : ℕ) (few : i < 16) (due : Option ℕ) (below : (q : ℕ) → due 
   none-starts : offered ≡ None → is_in_range l ≡ true
   none-starts none = by due below (ap (is_justified due refutes_none) (sym none) ∙ refused) outcome
     where
-      by : (due : Option ℕ) → ((q : ℕ) → due ≡ Some q → q < 6) → is_justified due refutes_none None ≡ false → IsOutcome i (option_map by_out due) l → is_in_range l ≡ true
+      by : (due : Option ℕ) → ((q : ℕ) → due ≡ Some q → q < 6) → is_justified due refutes_none None ≡ false → IsOutcome i (option_map by_out due) l
+          → is_in_range l ≡ true
       by None below refused is = absurd cc
       by (Some q) below refused is = ap is_in_range is ∙ in-range q (below q refl)
         where
@@ -158,7 +162,8 @@ module _ (i : ℕ) (few : i < 16) (due : Option ℕ) (below : (q : ℕ) → due 
           in-range q h = grind (arith, nat_tests)
 
   -- the text does not go on by it
-  pub refused-differs : (ls : List Line) (ts : List (List ℕ)) (rest v : List ℕ) → list_all is_in_range ls ≡ true → list_all is_short_line ts ≡ true → with_feeds ts ++ rest ≡ lines_text ls ++ v
+  pub refused-differs : (ls : List Line) (ts : List (List ℕ)) (rest v : List ℕ) → list_all is_in_range ls ≡ true → list_all is_short_line ts ≡ true
+      → with_feeds ts ++ rest ≡ lines_text ls ++ v
       → IsOffer i (drop (length ls) ts) offered → TakesEnough (length ls + 1) ts rest → v ≢ put_text l ++ r
   refused-differs ls ts rest v ranges short e offer enough is = by (aligned rest v ls ts ranges short e) enough
     where

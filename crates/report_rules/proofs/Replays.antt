@@ -32,7 +32,8 @@ chosen-here k cs c = ap (λ b. if b then cs else c k) (test-here k)
 -- ---- the first sample
 
 -- the lines of the head stand at the front
-pub replayed-begin : (names : List (List ℕ)) (ps : List Plant) (bytes left : List ℕ) → bytes ≡ lines_text (head_lines names) ++ left → (c : Choice) → Replayed names ps [] c bytes left
+pub replayed-begin : (names : List (List ℕ)) (ps : List Plant) (bytes left : List ℕ) → bytes ≡ lines_text (head_lines names) ++ left → (c : Choice)
+    → Replayed names ps [] c bytes left
 unfolding samples_lines
 replayed-begin names ps bytes left e c = record {
   allowed = λ k l. absurd (omega (arith, l));
@@ -75,7 +76,8 @@ module _ (names : List (List ℕ)) (ps : List Plant) (taken : List Sample) (c : 
         ap (lives_before longer m) one-more ∙ ap (λ ls. live_after ls (longer k)) (lives-longer k (omega arith)) ∙ ap (live_after lives) (chosen-here k os c)
 
     -- the lines of the sample stand behind the others
-    lines-longer : samples_lines zonotope_observer ps all longer (length all) ≡ samples_lines zonotope_observer ps taken c k ++ sample_lines (sample_answer zonotope_observer ps lives os all k)
+    lines-longer : samples_lines zonotope_observer ps all longer (length all)
+        ≡ samples_lines zonotope_observer ps taken c k ++ sample_lines (sample_answer zonotope_observer ps lives os all k)
     unfolding samples_lines
     lines-longer =
         ap (samples_lines zonotope_observer ps all longer) one-more
@@ -196,14 +198,16 @@ module _ (names : List (List ℕ)) (ps : List Plant) (taken : List Sample) (c : 
           grouped a b e f g = simp append_assoc
 
       -- the sample's lines stand in the report up to one, and the bytes go on otherwise than by it
-      pub line-departs : (begin : List Line) (l : Line) (tail : List Line) (v : List ℕ) → due_lines ≡ begin ++ l ∷ tail → left ≡ lines_text begin ++ v → ((r : List ℕ) → v ≢ put_text l ++ r)
+      pub line-departs : (begin : List Line) (l : Line) (tail : List Line) (v : List ℕ) → due_lines ≡ begin ++ l ∷ tail → left ≡ lines_text begin ++ v
+          → ((r : List ℕ) → v ≢ put_text l ++ r)
           → DepartsAt (watch names ps whole is_whole) (length front + length begin + 1) bytes
       line-departs begin l tail v is e differs =
           let report = longer-report in
           let at : due_report (watch names ps whole is_whole) ≡ (front ++ begin) ++ l ∷ (tail ++ report.0) =
           report.1 ∙ ap (λ ls. front ++ (ls ++ report.0)) is ∙ grouped front begin (l ∷ tail) report.0 in
           let text : bytes ≡ lines_text (front ++ begin) ++ v =
-          replayed.text ∙ ap (λ t. lines_text front ++ t) e ∙ sym (append_assoc (lines_text front) (lines_text begin) v) ∙ ap (λ t. t ++ v) (sym (lines_text-append front begin)) in
+          replayed.text ∙ ap (λ t. lines_text front ++ t) e ∙ sym (append_assoc (lines_text front) (lines_text begin) v)
+          ∙ ap (λ t. t ++ v) (sym (lines_text-append front begin)) in
           let many : length (front ++ begin) + 1 ≡ length front + length begin + 1 = omega (arith, length-append front begin) in
           subst (λ n. DepartsAt (watch names ps whole is_whole) n bytes) many (departs (watch names ps whole is_whole) (front ++ begin) l (tail ++ report.0) bytes v at text differs)
         where
@@ -221,3 +225,12 @@ module _ (names : List (List ℕ)) (ps : List Plant) (taken : List Sample) (c : 
           sym (justified-lines cs allowed) ∙ is ∙ ap (λ t. t ++ tail) cut ∙ append_assoc (take j begin) (get_or begin j d ∷ drop (suc j) begin) tail in
           subst (λ n. DepartsAt (watch names ps whole is_whole) (length front + n + 1) bytes) (length-take-le j begin (omega arith))
           (line-departs (take j begin) (get_or begin j d) (drop (suc j) begin ++ tail) v lines e differs)
+
+      -- the same of the lines with the certificates that are due
+      pub due-departs : (j : ℕ) (d : Line) (v : List ℕ) → j < length due_lines → left ≡ lines_text (take j due_lines) ++ v
+          → ((r : List ℕ) → v ≢ put_text (get_or due_lines j d) ++ r) → DepartsAt (watch names ps (all ++ more) is_whole) (length front + j + 1) bytes
+      due-departs j d v l e differs =
+          let cut : due_lines ≡ take j due_lines ++ get_or due_lines j d ∷ drop (suc j) due_lines =
+          sym (take-append-drop j due_lines) ∙ ap (λ t. take j due_lines ++ t) (drop-cons due_lines j d l) in
+          subst (λ n. DepartsAt (watch names ps whole is_whole) (length front + n + 1) bytes) (length-take-le j due_lines (omega arith))
+          (line-departs (take j due_lines) (get_or due_lines j d) (drop (suc j) due_lines) v cut e differs)
