@@ -1,5 +1,5 @@
 -- What `run` may put is accepted, and the report with the certificates that are due is one that it may put.
-use Rattle.std.proofs.Common.{◌≡◌, ℕ, zero, suc, ◌<◌, ℤ, List, [], ◌∷◌, length, map, Option, Some, None, option_map, Bool, true, false, not, ◌||◌, ◌&&◌, refl, sym, ap, ◌∙◌, arith}
+use Rattle.std.proofs.Common.{◌≡◌, ℕ, zero, suc, ◌<◌, ℤ, List, [], ◌∷◌, length, Option, Some, None, option_map, Bool, true, false, not, ◌||◌, ◌&&◌, refl, sym, ap, ◌∙◌, arith}
 use Rattle.std.specs.Cmp.Rules.{signed_items}
 use Rattle.std.proofs.lemmas.Bool.Decides.{nat_tests}
 use Rattle.std.proofs.lemmas.List.{length-map, length-replicate}
@@ -8,9 +8,8 @@ use Rattle.farkas_check.specs.Multipliers.{are_multipliers}
 use Rattle.plant_model.specs.Plant.{Plant, Sample}
 use Rattle.observer_step.specs.Answers.{Observer, zonotope_observer, due_at, certificate_at, is_justified, is_chosen, any_justified, as_run_chooses, allows_at}
 use Rattle.model_bank.specs.Answers.{all_allowed, certificates_at, live_after}
-use Rattle.report_text.specs.Line.{Line}
 use Rattle.report_rules.specs.Claims.{CandidatesRefute}
-use Rattle.report_rules.specs.Report.{Watch, IsReport, lives_before, report, due_choice}
+use Rattle.report_rules.specs.Report.{lives_before, due_choice}
 use Rattle.report_rules.specs.Laws.{RunIsAccepted, DueIsChosen, ZonotopeRefutes}
 
 -- ---- what `run` chooses is justified

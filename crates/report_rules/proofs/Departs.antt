@@ -132,7 +132,7 @@ module _ (names : List (List ℕ)) (ps : List Plant) (samples : List Sample) (c 
     so_far ++ end (length samples) ∷ [],
     due-justified (watch names ps samples true) (so_far ++ end (length samples) ∷ []) (report-so_far true),
     replayed.text ∙ ap (λ t. lines_text so_far ++ t) (e ∙ sym (append-nil (put_text (end (length samples)))))
-    ∙ sym (lines_text-append so_far (end (length samples) ∷ []))
+        ∙ sym (lines_text-append so_far (end (length samples) ∷ [])),
   )
 
   -- another line, or none, stands in its place
@@ -154,5 +154,5 @@ module _ (names : List (List ℕ)) (ps : List Plant) (samples : List Sample) (c 
     so_far,
     due-justified (watch names ps samples false) so_far (report-so_far false ∙ append-nil so_far),
     left,
-    replayed.text
+    replayed.text,
   )

@@ -1,5 +1,5 @@
 -- Each hull line of a report holds every trajectory of its model, and each model that an exclusion line names has none.
-use Rattle.std.proofs.Common.{◌≡◌, ℕ, zero, suc, ◌+◌, ◌<◌, ◌≤◌, ℤ, pos, List, [], ◌∷◌, ◌++◌, length, map, flat_map, get_or, Option, Some, None, is_none, if◌then◌else◌, Bool, true, false, not, ◌||◌, ◌&&◌, refl, sym, ap, ◌∙◌, arith, subst, append_assoc}
+use Rattle.std.proofs.Common.{◌≡◌, ℕ, zero, suc, ◌+◌, ◌<◌, ◌≤◌, ℤ, pos, List, [], ◌∷◌, ◌++◌, length, map, flat_map, get_or, Option, Some, None, Bool, true, false, not, ◌||◌, ◌&&◌, refl, sym, ap, ◌∙◌, arith, subst, append_assoc}
 use Rattle.std.specs.List.{enumerate_from}
 use Rattle.set_rules.specs.Box.{hull as hull_of, IsBetween}
 use Rattle.set_rules.proofs.ImageSets.{length-tabulate, get_or-tabulate}

@@ -1,7 +1,6 @@
 -- Later samples change nothing of what is said of earlier ones.
-use Rattle.std.proofs.Common.{◌≡◌, ℕ, zero, suc, ◌+◌, ◌<◌, ◌≤◌, Bool, true, not, ◌&&◌, ◌||◌, List, [], ◌∷◌, ◌++◌, length, Option, option_map, if◌then◌else◌, is_none, refl, ap, ◌∙◌, arith, ℤ}
+use Rattle.std.proofs.Common.{◌≡◌, ℕ, zero, suc, ◌+◌, ◌<◌, ◌≤◌, Bool, not, ◌&&◌, ◌||◌, List, [], ◌∷◌, ◌++◌, length, Option, option_map, if◌then◌else◌, is_none, refl, ap, ◌∙◌, arith, ℤ}
 use Rattle.std.proofs.lemmas.List.{get_or_append_left}
-use Rattle.set_rules.specs.Zono.{Zono}
 use Rattle.farkas_check.specs.Certificate.{Certificate, by_out}
 use Rattle.isolate_core.specs.Verdict.{verdict_of, possible_models}
 use Rattle.plant_model.specs.Plant.{Plant, Sample, no_sample, sample_at}

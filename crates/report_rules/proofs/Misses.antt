@@ -1,5 +1,5 @@
 -- After the intervals of a model of which a reading misses one, the line that excludes it by the least such output.
-use Rattle.std.proofs.Common.{◌≡◌, ℕ, zero, suc, ◌+◌, ◌<◌, ◌==◌, ℤ, List, [], ◌∷◌, ◌++◌, length, map, flat_map, get_or, Option, Some, None, option_map, is_none, if◌then◌else◌, Bool, true, false, not, ◌||◌, ◌&&◌, refl, sym, ap, ◌∙◌, arith, subst, append_assoc}
+use Rattle.std.proofs.Common.{◌≡◌, ℕ, zero, suc, ◌+◌, ◌<◌, ◌==◌, ℤ, List, [], ◌∷◌, ◌++◌, length, map, flat_map, get_or, Option, Some, None, option_map, if◌then◌else◌, Bool, true, false, not, ◌||◌, ◌&&◌, refl, sym, ap, ◌∙◌, arith, subst, append_assoc}
 use Rattle.std.specs.List.{enumerate_from}
 use Rattle.std.proofs.lemmas.Bool.Decides.{nat_tests}
 use Rattle.set_rules.specs.Tests.{first_below, last_passing, or_else}
@@ -13,7 +13,7 @@ use Rattle.model_bank.specs.Answers.{answer_if, answers_from, sample_answer, all
 use Rattle.report_text.specs.Line.{Line, model, pred, exclude, hull, status, possible, verdict}
 use Rattle.report_rules.specs.Lines.{head_lines, pred_lines, hull_lines, outcome_lines, model_lines, sample_lines, last_lines}
 use Rattle.report_rules.specs.Claims.{MissesTold, first_missed}
-use Rattle.report_rules.specs.Report.{Choice, lives_before, samples_lines, report, IsReport}
+use Rattle.report_rules.specs.Report.{Choice, lives_before, samples_lines}
 use Rattle.report_rules.specs.Laws.{MissesAreTold}
 
 same-output : (q o : ℕ) → (q == o) ≡ true → q ≡ o

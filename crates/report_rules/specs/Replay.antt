@@ -3,13 +3,12 @@ use Rattle.std.specs.Prelude.{◌≡◌, ◌≢◌, ◌⊎◌, ℕ, ◌+◌, ◌
 use Rattle.std.specs.List.{All, list_any, list_all}
 use Rattle.farkas_check.specs.Certificate.{Certificate}
 use Rattle.plant_model.specs.Plant.{Plant, Sample}
-use Rattle.observer_step.specs.Answers.{Rule, Observer, any_justified, zonotope_observer, answer_with}
-use Rattle.model_bank.specs.Answers.{all_allowed, sample_answer, answers_from}
-use Rattle.report_text.specs.Line.{Line, sample, exclude, lines_text}
+use Rattle.observer_step.specs.Answers.{any_justified, zonotope_observer}
+use Rattle.report_text.specs.Line.{Line, exclude, lines_text}
 use Rattle.report_text.specs.Laws.{is_feed}
 use Rattle.report_text.specs.Ranges.{IsLine}
-use Rattle.report_rules.specs.Lines.{head_lines, pred_lines, model_lines, sample_lines}
-use Rattle.report_rules.specs.Report.{Watch, Choice, lives_before, samples_lines, AllowedBefore, IsReportText, IsFirstBad, Covers}
+use Rattle.report_rules.specs.Lines.{head_lines}
+use Rattle.report_rules.specs.Report.{Watch, Choice, samples_lines, AllowedBefore, IsReportText, IsFirstBad, Covers}
 
 -- at most 16 models, each of at most 6 outputs and of some state
 pub record AreFew (ps : List Plant) : Type 0 where
