@@ -222,7 +222,7 @@ header-yet inputs outputs is_ended c unread none ended = record {
   ended = ended;
 }
 
-none-left : (e : Bool) (left rest : List ℕ) → (e ≡ true → (left ≡ []) × (rest ≡ [])) → e ≡ true → left ++ rest ≡ []
+pub none-left : (e : Bool) (left rest : List ℕ) → (e ≡ true → (left ≡ []) × (rest ≡ [])) → e ≡ true → left ++ rest ≡ []
 none-left e left rest h t = let both = h t in ap (λ l. l ++ rest) both.0 ∙ both.1
 
 -- before the first line of a stream that may have ended
