@@ -1,22 +1,22 @@
 -- The ended lines of a stream, as its lines are cut and taken.
 use Rattle.std.proofs.Common.{◌≡◌, ℕ, suc, ◌+◌, ◌-◌, ◌<◌, ◌≤◌, Bool, true, false, ◌||◌, List, [], ◌∷◌, ◌++◌, length, take, drop, refl, sym, ap, subst, ◌∙◌, arith, length-append, append-nil, ◌⊎◌, inl, inr, Option, Some, None, Result, Ok, Err, IfOk}
 use Rattle.std.specs.Prelude.{filter}
-use Rattle.std.specs.List.{list_any, before_first, after_first}
+use Rattle.std.specs.List.{list_any}
 use Rattle.std.specs.Io.KnownBytes.{IsAtEnd}
 use Rattle.std.proofs.Math.Seq.{take-append-add}
 use Rattle.std.proofs.lemmas.List.{take-append-le, take-append-drop}
 use Rattle.std.proofs.lemmas.List.Folds.{list_any-append}
 use Rattle.plant_model.specs.Plant.{Sample}
 use Rattle.telem_csv.specs.Columns.{Columns}
-use Rattle.telem_csv.specs.Cutter.{Cutter, current, behind, text_at}
+use Rattle.telem_csv.specs.Cutter.{Cutter, current, text_at}
 use Rattle.telem_csv.specs.Lines.{RawLine, is_feed, line_text}
-use Rattle.telem_csv.specs.Rows.{Rows, no_rows, rows_from, then_rows, row_of, refused_at}
-use Rattle.telem_csv.specs.Telemetry.{Telemetry, no_header, has_header, from_line, then_header, header_of}
+use Rattle.telem_csv.specs.Rows.{no_rows, rows_from, then_rows, row_of, refused_at}
+use Rattle.telem_csv.specs.Telemetry.{no_header, from_line, then_header, header_of}
 use Rattle.telem_csv.specs.declared.fault.TelemWhy.TheVariants as why
 use Rattle.telem_csv.proofs.Cuts.{raw_lines-cut, raw_lines-last}
-use Rattle.input_files.specs.Stream.{with_sample, BothTold}
+use Rattle.input_files.specs.Stream.{BothTold}
 use Rattle.input_files.specs.Ended.{ended_lines, without_last, lines_ended, rows_ended, telemetry_ended, GrowsLine, CutsLine, EndsNoLine, TakesNoLine, TakesLine, EndsNoRow, TakesNoRow, TakesRow, EndsNoHeader, TakesNoHeader, TakesHeader}
-use Rattle.input_files.proofs.Streams.{current-line, told-then, both-told}
+use Rattle.input_files.proofs.Streams.{current-line, told-then}
 
 first_false : (a b : Bool) → (a || b) ≡ false → a ≡ false
 first_false true b h = absurd cc

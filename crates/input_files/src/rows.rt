@@ -34,6 +34,8 @@ pub fn find_header<F: Shelf>(
     requires few { length inputs.now ≤ 4 }
     ensures header { IfOk result (λ head. OnUnread 1 stream.old (F.state shelf.old) stream.new (F.state shelf.new)
         (TellsHeader inputs.now outputs.now head stream.old.cutter stream.new.cutter)) }
+
+    // The header's line ended with the last line feed that was taken, or stands at the end of the stream.
     ensures takes { IfOk result (λ head. OnUnread 1 stream.old (F.state shelf.old) stream.new (F.state shelf.new)
         (TakesHeader inputs.now outputs.now head stream.new.is_ended stream.old.cutter stream.new.cutter)) }
     ensures counts { IfOk result (AreFor inputs.now outputs.now) }
@@ -43,10 +45,14 @@ pub fn find_header<F: Shelf>(
         → OnUnread 1 stream.old (F.state shelf.old) stream.new (F.state shelf.new)
         (RefusesHeader inputs.now outputs.now stream.old.cutter fault)) }
     ensures read { IfErr result (HasReadCause 1 (F.state shelf.old) (F.state shelf.new)) }
+
+    // Reading failed: all that was read was used, and no header is in it.
     ensures failed { IfErr result (λ e. e ≡ StreamFault.Read → FailsAtSlot stream.old stream.new) }
     ensures no_line { IfErr result (λ e. e ≡ StreamFault.Read
         → OnUnread 1 stream.old (F.state shelf.old) stream.new (F.state shelf.new)
         (TakesNoHeader inputs.now outputs.now stream.old.cutter)) }
+
+    // A stream that has ended has nothing at hand, and its slot gives no more.
     ensures ended { IsEndedAt 1 stream.new (F.state shelf.new) }
     ensures stays { stream.new.is_ended ≡ false → stream.old.is_ended ≡ false }
     ensures kept { ReadsOn 1 (F.state shelf.old) (F.state shelf.new) }
@@ -86,6 +92,8 @@ pub fn next_row<F: Shelf>(
     ensures row { IfOk result (λ o. IfSome o (λ s.
         OnUnread 1 stream.old (F.state shelf.old) stream.new (F.state shelf.new)
         (TellsSample head.now (sample_of s) stream.old.cutter stream.new.cutter))) }
+
+    // The row's line ended with the last line feed that was taken, or stands at the end of the stream.
     ensures takes { IfOk result (λ o. IfSome o (λ s.
         OnUnread 1 stream.old (F.state shelf.old) stream.new (F.state shelf.new)
         (TakesRow head.now (sample_of s) stream.new.is_ended stream.old.cutter stream.new.cutter))) }
@@ -101,9 +109,13 @@ pub fn next_row<F: Shelf>(
         → OnUnread 1 stream.old (F.state shelf.old) stream.new (F.state shelf.new)
         (RefusesRow head.now stream.old.cutter fault)) }
     ensures read { IfErr result (HasReadCause 1 (F.state shelf.old) (F.state shelf.new)) }
+
+    // Reading failed: all that was read was used, and no row is in it.
     ensures failed { IfErr result (λ e. e ≡ StreamFault.Read → FailsAtSlot stream.old stream.new) }
     ensures no_line { IfErr result (λ e. e ≡ StreamFault.Read
         → OnUnread 1 stream.old (F.state shelf.old) stream.new (F.state shelf.new) (TakesNoRow head.now stream.old.cutter)) }
+
+    // A stream that has ended has nothing at hand, and its slot gives no more.
     ensures ended { IsEndedAt 1 stream.new (F.state shelf.new) }
     ensures stays { stream.new.is_ended ≡ false → stream.old.is_ended ≡ false }
     ensures kept { ReadsOn 1 (F.state shelf.old) (F.state shelf.new) }

@@ -84,6 +84,8 @@ impl Stream {
             (TellsLine self.old.cutter self.new.cutter)) }
         ensures cut { IfOk result (λ b. b ≡ true → self.new.cutter.last ≡ Fed.Line) }
         ensures fewer { IfOk result (λ b. b ≡ true → (current self.new.cutter).room < (current self.old.cutter).room) }
+
+        // The line ended with the last byte that was taken, or stands at the end of the stream.
         ensures takes { IfOk result (λ b. b ≡ true
             → OnUnread slot self.old (F.state shelf.old) self.new (F.state shelf.new)
             (TakesLine self.new.is_ended self.old.cutter self.new.cutter)) }
@@ -97,9 +99,13 @@ impl Stream {
             → OnUnread slot self.old (F.state shelf.old) self.new (F.state shelf.new)
             (λ unread _. TellsRefusal self.old.cutter fault unread)) }
         ensures read { IfErr result (HasReadCause slot (F.state shelf.old) (F.state shelf.new)) }
+
+        // Reading failed: all that was read was used, and no line ended in it.
         ensures failed { IfErr result (λ e. e ≡ StreamFault.Read → FailsAtSlot self.old self.new) }
         ensures no_line { IfErr result (λ e. e ≡ StreamFault.Read
             → OnUnread slot self.old (F.state shelf.old) self.new (F.state shelf.new) (TakesNoLine self.old.cutter)) }
+
+        // A stream that has ended has nothing at hand, and its slot gives no more.
         ensures ended { IsEndedAt slot self.new (F.state shelf.new) }
         ensures stays { self.new.is_ended ≡ false → self.old.is_ended ≡ false }
         ensures kept { ReadsOn slot (F.state shelf.old) (F.state shelf.new) }

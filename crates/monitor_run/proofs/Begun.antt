@@ -25,7 +25,7 @@ use Rattle.monitor_run.specs.Outcome.{PutsReport}
 use Rattle.monitor_run.specs.Rows.{ending_of, model_ending}
 use Rattle.monitor_run.specs.InTime.{report_begun, begun_of, lines_begun, GainsAtLeast, PutsInTime, RowsInTime}
 use Rattle.monitor_run.proofs.Opened.{if-some, of-some}
-use Rattle.monitor_run.proofs.InTime.{side, false-or-true, not-both, both-some, some-both}
+use Rattle.monitor_run.proofs.InTime.{side, false-or-true, both-some, some-both}
 
 -- nothing is due where there is no header
 nothing-due : (ms : Models) (t : List ℕ) (held : SinkState) → begun_of (begun_with ms t) ≡ [] → Gains (lines_text (begun_of (begun_with ms t))) held held

@@ -1,42 +1,33 @@
 -- The lines that a run over the rows of a telemetry has put by the time that it ends early.
 use Rattle.std.proofs.Common.{◌≡◌, ℕ, ◌+◌, ◌-◌, ◌<◌, ◌≤◌, Bool, true, false, List, [], ◌∷◌, ◌++◌, length, take, drop, Option, Some, None, IfSome, Result, Ok, Err, IfErr, OnErr, refl, sym, ap, ◌∙◌, subst, arith, append_assoc, append-nil, length-append, length-take, ◌⊎◌, inl, inr}
-use Rattle.std.specs.Prelude.{slice_range, is_some}
+use Rattle.std.specs.Prelude.{slice_range}
 use Rattle.outside_io.specs.Sink.{SinkState, Gains, GainsFront}
-use Rattle.outside_io.proofs.Grows.{appends_more, appends_none}
+use Rattle.outside_io.proofs.Grows.{appends_more}
 use Rattle.plant_model.specs.Plant.{Plant, Sample}
 use Rattle.telem_csv.specs.Columns.{Columns}
-use Rattle.telem_csv.specs.Cutter.{Cutter, at_start}
-use Rattle.telem_csv.specs.Rows.{Rows, no_rows, refused_at}
-use Rattle.telem_csv.specs.Telemetry.{no_header}
-use Rattle.telem_csv.specs.declared.fault.TelemWhy.TheVariants as why
-use Rattle.telem_csv.specs.declared.fault.TelemFault.{TelemFault}
+use Rattle.telem_csv.specs.Cutter.{Cutter}
+use Rattle.telem_csv.specs.Rows.{Rows}
 use Rattle.model_file.specs.Bank.{Models}
-use Rattle.model_file.specs.ModelFile.{models_of}
 use Rattle.model_bank.specs.Bank.{plants_in, names_in}
 use Rattle.report_text.specs.Line.{Line, lines_text}
 use Rattle.report_rules.specs.Lines.{head_lines}
 use Rattle.report_rules.proofs.Later.{due-lines-same}
 use Rattle.outside_io.specs.declared.sink.PutFault.{PutFault}
 use Rattle.outside_io.specs.declared.sink.PutFault.TheVariants as put
-use Rattle.input_files.specs.Ended.{without_last, rows_ended, telemetry_ended, EndsNoRow, TakesNoRow, TakesRow, EndsNoHeader, TakesNoHeader, TakesHeader, begun_with, files_begun}
+use Rattle.input_files.specs.Ended.{without_last, rows_ended, EndsNoRow, TakesNoRow, TakesRow}
 use Rattle.input_files.specs.Stream.{BothTold, with_sample}
-use Rattle.input_files.specs.Files.{Files, most_telemetry, with_telemetry}
-use Rattle.input_files.specs.Told.{OnBytes}
 use Rattle.input_files.specs.Whole.{most_piece}
 use Rattle.input_files.specs.declared.stream.StreamFault.{StreamFault}
 use Rattle.input_files.specs.declared.stream.StreamFault.TheVariants as stream
-use Rattle.input_files.specs.declared.model.ModelEnding.{ModelEnding}
-use Rattle.input_files.specs.declared.model.ModelEnding.TheVariants as models
 use Rattle.std.specs.Io.KnownBytes.{IsAtEnd}
 use Rattle.input_files.proofs.Streams.{told-then}
 use Rattle.input_files.proofs.Ended.{none-left}
 use Rattle.monitor_run.specs.declared.done.Done.{Done}
 use Rattle.monitor_run.specs.declared.done.RunFault.{RunFault}
 use Rattle.monitor_run.specs.declared.done.RunFault.TheVariants.{Model, Telemetry, Read, Write, Memory}
-use Rattle.monitor_run.specs.Rows.{due_lines, behind, ending_of, put_ending, model_ending, IsPutEnding}
-use Rattle.monitor_run.specs.InTime.{rows_begun, report_begun, begun_of, lines_begun, GainsAtLeast, PutsInTime, ReadInTime, RowsInTime}
+use Rattle.monitor_run.specs.Rows.{due_lines, behind, ending_of, put_ending, IsPutEnding}
+use Rattle.monitor_run.specs.InTime.{rows_begun, report_begun, GainsAtLeast, ReadInTime, RowsInTime}
 use Rattle.monitor_run.proofs.Turns.{lines-append, lines-longer}
-use Rattle.monitor_run.proofs.Opened.{if-some, of-some}
 
 -- ---- what the ended lines tell, as samples are taken
 
@@ -119,9 +110,11 @@ at-least : (ps : List Plant) (first taken : List Sample) (held0 held held' : Sin
 at-least ps first taken held0 held held' next (more, is) put (n, within, then) =
     let longer = front-lines ps first more in
     let begun = lines_text (due_lines ps first (length first)) in
-    let all : lines_text (due_lines ps taken (length taken)) ≡ begun ++ lines_text longer.0 = ap (λ ss. lines_text (due_lines ps ss (length ss))) is ∙ ap lines_text longer.1 ∙ lines-append (due_lines ps first (length first)) longer.0 in
-    (lines_text longer.0 ++ take n next, appends_more held0.held held.held held'.held (lines_text (due_lines ps taken (length taken))) (take n next) (begun ++ (lines_text longer.0 ++ take n next)) put then
-    (sym (append_assoc begun (lines_text longer.0) (take n next)) ∙ ap (λ t. t ++ take n next) (sym all)))
+    let all : lines_text (due_lines ps taken (length taken)) ≡ begun ++ lines_text longer.0 = ap (λ ss. lines_text (due_lines ps ss (length ss))) is ∙ ap lines_text longer.1 ∙ lines-append (due_lines ps first (length first)) longer.0 in (
+      lines_text longer.0 ++ take n next,
+      appends_more held0.held held.held held'.held (lines_text (due_lines ps taken (length taken))) (take n next) (begun ++ (lines_text longer.0 ++ take n next)) put then
+          (sym (append_assoc begun (lines_text longer.0) (take n next)) ∙ ap (λ t. t ++ take n next) (sym all)),
+    )
 
 -- a piece is at most so long
 pub piece-short : (piece : List ℕ) (at end : ℕ) → end ≤ 4096 → length (slice_range piece at end) ≤ 4096
@@ -214,9 +207,11 @@ module _ (ms : Models) (held0 held held' : SinkState) (put : Gains (lines_text (
   }
   behind-head-in_time (Err Write) h = λ within.
       let behind = h within in
-      let lines = rows_begun (plants_in ms) (rows (left + most_piece + 1)) in
-      (behind.0, appends_more held0.held held.held held'.held (lines_text (head_lines (names_in ms))) (lines_text lines ++ behind.0) (lines_text (head_lines (names_in ms) ++ lines) ++ behind.0) put behind.1
-      (ap (λ t. t ++ behind.0) (lines-append (head_lines (names_in ms)) lines) ∙ append_assoc (lines_text (head_lines (names_in ms))) (lines_text lines) behind.0))
+      let lines = rows_begun (plants_in ms) (rows (left + most_piece + 1)) in (
+        behind.0,
+        appends_more held0.held held.held held'.held (lines_text (head_lines (names_in ms))) (lines_text lines ++ behind.0) (lines_text (head_lines (names_in ms) ++ lines) ++ behind.0) put behind.1
+            (ap (λ t. t ++ behind.0) (lines-append (head_lines (names_in ms)) lines) ∙ append_assoc (lines_text (head_lines (names_in ms))) (lines_text lines) behind.0),
+      )
   behind-head-in_time (Err Memory) h = tt
 
 -- the head was put in part, and the piece that holds the header's line is at hand

@@ -43,9 +43,13 @@ pub fn monitor<F: Shelf, O: Sink>(
     ensures says_files { OnFiles (F.state shelf.old) model.now telemetry.now (SaysOfFiles result) }
     ensures puts { OnFiles (F.state shelf.old) model.now telemetry.now
         (λ files. PutsReport (report_of files) (O.state out.old) result (O.state out.new)) }
+
+    // Where reading the telemetry failed, the lines of all that was read were put, and where a put failed, nothing was read ahead.
     ensures in_time { OnLeft (F.state shelf.old) (F.state shelf.new) model.now telemetry.now
         (λ m t left. PutsInTime (lines_begun m t) left (O.state out.old) result (O.state out.new)) }
     ensures model_taken { TakesAtMost (most_model + most_piece) ((F.state shelf.old).file model.now) ((F.state shelf.new).slot 0) }
+
+    // Nothing is put before the model file is judged.
     ensures nothing { PutsNothing (O.state out.old) result (O.state out.new) }
     ensures read { IfRead result (ReadsFailed model.now telemetry.now (F.state shelf.old) (F.state shelf.new)) }
     ensures write { HasWriteCause (O.state out.old) result (O.state out.new) }

@@ -1,4 +1,4 @@
-use Rattle.std.proofs.Common.{◌≡◌, Result, Ok, Some, None, List, ℕ, ◌++◌, sym, ◌∙◌, ap, refl, arith, rules, option_map}
+use Rattle.std.proofs.Common.{◌≡◌, Ok, Some, None, ◌++◌, sym, ◌∙◌, ap, refl, arith, rules, option_map}
 use Rattle.std.proofs.lemmas.Result.{err_from_is_err_and}
 use Rattle.telem_csv.proofs.Stream.{no_feed_now}
 use Rattle.telem_csv.specs.Cutter.{text_at}

@@ -18,8 +18,11 @@ rows-init g c = record {
   going = c.requires.going;
   inputs = c.requires.inputs;
   outputs = c.requires.outputs;
-  taken = ([], nothing-yet c.args.head.now c.args.bank.now c.args.stream.now.cutter (left_of c.args.stream.now) ((g.F.Shelf.state c.args.shelf.now).slot 1).rest (g.O.Sink.state c.args.out.now) c.requires.begins,
-      in_time-init c.args.head.now c.args.stream.now.is_ended c.args.stream.now.cutter (left_of c.args.stream.now) ((g.F.Shelf.state c.args.shelf.now).slot 1).rest c.requires.ended);
+  taken = (
+    [],
+    nothing-yet c.args.head.now c.args.bank.now c.args.stream.now.cutter (left_of c.args.stream.now) ((g.F.Shelf.state c.args.shelf.now).slot 1).rest (g.O.Sink.state c.args.out.now) c.requires.begins,
+    in_time-init c.args.head.now c.args.stream.now.is_ended c.args.stream.now.cutter (left_of c.args.stream.now) ((g.F.Shelf.state c.args.shelf.now).slot 1).rest c.requires.ended,
+  );
   ended = c.requires.ended;
   stays = λ h. h;
   room = omega arith;

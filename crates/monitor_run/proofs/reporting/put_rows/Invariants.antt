@@ -1,4 +1,4 @@
-use Rattle.std.proofs.Common.{◌≡◌, ◌+◌, ◌≤◌, ◌++◌, List, length, true, false}
+use Rattle.std.proofs.Common.{◌≡◌, ◌+◌, ◌≤◌, ◌++◌, List, length, false}
 use Rattle.plant_model.specs.Plant.{Sample}
 use Rattle.telem_csv.specs.Cutter.{current}
 use Rattle.telem_csv.specs.Fed.{is_refusal}

@@ -1,4 +1,4 @@
-use Rattle.std.proofs.Common.{List, ℕ, ◌∙◌, sym, subst, refl, ◌++◌}
+use Rattle.std.proofs.Common.{◌∙◌, sym, subst, refl, ◌++◌}
 use Rattle.std.proofs.lemmas.Result.{err_from_is_err_and}
 use Rattle.input_files.specs.Left.{left_of}
 use Rattle.input_files.specs.Ended.{CutsLine, GrowsLine, TakesLine, TakesNoLine, EndsNoLine}
