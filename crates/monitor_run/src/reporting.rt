@@ -49,7 +49,7 @@ pub fn monitor<F: Shelf, O: Sink>(
         (λ m t left. PutsInTime (lines_begun m t) left (O.state out.old) result (O.state out.new)) }
     ensures model_taken { TakesAtMost (most_model + most_piece) ((F.state shelf.old).file model.now) ((F.state shelf.new).slot 0) }
 
-    // Nothing is put before the model file is judged.
+    // A run that ended at the model file has put nothing.
     ensures nothing { PutsNothing (O.state out.old) result (O.state out.new) }
     ensures read { IfRead result (ReadsFailed model.now telemetry.now (F.state shelf.old) (F.state shelf.new)) }
     ensures write { HasWriteCause (O.state out.old) result (O.state out.new) }
