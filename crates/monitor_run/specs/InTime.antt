@@ -41,7 +41,8 @@ abbrev pub GainsAtLeast : List ℕ → SinkState → SinkState → Type 0
 GainsAtLeast bytes before after = (more : List ℕ) × Gains (bytes ++ more) before after
 
 -- Where reading the telemetry failed, exactly what is due for the bytes read was put; where a put failed, at least what is due
--- without the last piece and the byte before it. `begun k` are the lines due without the last k bytes, of which `left` are unread.
+-- without the last piece read and the byte before it. `begun k` are the lines due for the telemetry without its last k bytes, and
+-- `left` bytes of it are unread.
 abbrev pub PutsInTime : (ℕ → List Line) → ℕ → SinkState → Result Done RunFault → SinkState → Type 0
 PutsInTime begun left before (Ok done) after = Unit
 PutsInTime begun left before (Err (Model fault)) after = Unit
