@@ -1,10 +1,12 @@
 -- What a stream has at hand, as pieces are taken and read.
-use Rattle.std.proofs.Common.{◌≡◌, ◌≢◌, ℕ, ◌+◌, ◌-◌, ◌<◌, ◌≤◌, Bool, true, false, List, ◌++◌, length, take, drop, Option, Some, None, refl, sym, ap, ◌∙◌, arith, length-append, if◌then◌else◌, Result, Ok, Err, length-take}
-use Rattle.std.proofs.lemmas.List.{drop-take, drop-drop}
+use Rattle.std.proofs.Common.{◌≡◌, ◌≢◌, ℕ, ◌+◌, ◌-◌, ◌<◌, ◌≤◌, Bool, true, false, List, [], ◌∷◌, ◌++◌, ◌&&◌, length, take, drop, Option, Some, None, refl, sym, ap, ◌∙◌, arith, append_assoc, length-append, if◌then◌else◌, Result, Ok, Err, length-take}
+use Rattle.std.proofs.lemmas.List.{drop-take, drop-drop, drop_all, drop_at, take_all}
 use Rattle.input_files.specs.Stream.{GoesOn, BothTold, TellsRefusal}
-use Rattle.std.specs.Prelude.{slice_range}
-use Rattle.std.specs.List.{before_first}
-use Rattle.telem_csv.specs.Lines.{is_feed, within, line_text}
+use Rattle.std.specs.Prelude.{slice_range, nat_lt, nat_le}
+use Rattle.std.specs.List.{before_first, after_first, list_any, position_or_len}
+use Rattle.telem_csv.proofs.Cuts.{cut_at_feed}
+use Rattle.input_files.specs.Ended.{CutsLine, GrowsLine}
+use Rattle.telem_csv.specs.Lines.{is_feed, is_return, most_line, text_of, within, line_text}
 use Rattle.telem_csv.specs.Columns.{Columns}
 use Rattle.telem_csv.specs.Rows.{refused_rows, refused_at}
 use Rattle.telem_csv.specs.Telemetry.{no_header}
@@ -43,7 +45,7 @@ finished-going c going = rw going refl
 current-more : (c : Cutter) → c.last ≡ fed.More → current c ≡ c
 current-more c e = ap (λ f. current_after f c) e
 
-current-line : (c : Cutter) → c.last ≡ fed.Line → current c ≡ behind c
+pub current-line : (c : Cutter) → c.last ≡ fed.Line → current c ≡ behind c
 current-line c e = ap (λ f. current_after f c) e
 
 -- a cut line takes some of the room
@@ -79,6 +81,106 @@ fed-more c new piece going e is last answer taken =
       where
         if-false : (e : is_refusal c.last ≡ false) → feed_taken c piece ≡ taken_for (feed_answer c piece) (current c) (length (before_first is_feed piece))
         if-false e = rw e refl
+
+-- ---- what a piece does to the line at hand
+
+-- a line that is not cut is no line
+more_not_line : {A : Type 0} (r : Result A TelemWhy) → fed_by fed.More r ≡ fed.Line → ⊥
+more_not_line (Ok x) h = cc
+more_not_line (Err why.NoHeader) h = cc
+more_not_line (Err (why.NoColumn c)) h = cc
+more_not_line (Err (why.TwiceColumn c)) h = cc
+more_not_line (Err (why.Ragged want got)) h = cc
+more_not_line (Err (why.Field c e)) h = cc
+more_not_line (Err (why.NoInput i)) h = cc
+more_not_line (Err why.LongLine) h = cc
+more_not_line (Err why.StrayCr) h = cc
+more_not_line (Err why.TooLong) h = cc
+more_not_line (Err why.Memory) h = cc
+
+-- a line that is told has a text
+line-told : (room n : ℕ) (bytes : List ℕ) → fed_by fed.Line (line_text room n (record { bytes = bytes; is_ended = true })) ≡ fed.Line
+    → line_text room n (record { bytes = bytes; is_ended = true }) ≡ Ok (text_of n bytes)
+line-told room n bytes h = by (nat_lt room (length bytes + 1) && nat_le room most_line) (nat_lt most_line (length bytes)) (list_any is_return (text_of n bytes)) refl refl refl
+  where
+    by : (a b s : Bool) → (nat_lt room (length bytes + 1) && nat_le room most_line) ≡ a → nat_lt most_line (length bytes) ≡ b → list_any is_return (text_of n bytes) ≡ s
+        → line_text room n (record { bytes = bytes; is_ended = true }) ≡ Ok (text_of n bytes)
+    by true b s ea eb es = let no : fed.OverLimit ≡ fed.Line = rw ea at h in absurd cc
+    by false true s ea eb es = let no : fed.Long ≡ fed.Line = rw (ea, eb) at h in absurd cc
+    by false false true ea eb es = let no : fed.StrayCr ≡ fed.Line = rw (ea, eb, es) at h in absurd cc
+    by false false false ea eb es = rw (ea, eb, es) refl
+
+module _ (c new : Cutter) (piece : List ℕ) (going : is_refusal c.last ≡ false) (is_new : new ≡ after_feed c piece) (is : IsCutter new) where
+  after-is : (a : Fed) → feed_answer c piece ≡ a → new ≡ after_answer a (current c) (line_with (current c) piece).bytes
+  after-is a answer = is_new ∙ fed-going c piece going ∙ ap (λ a. after_answer a (current c) (line_with (current c) piece).bytes) answer
+
+  taken-is : (a : Fed) → feed_answer c piece ≡ a → feed_taken c piece ≡ taken_for a (current c) (length (before_first is_feed piece))
+  taken-is a answer = going-is ∙ ap (λ a. taken_for a (current c) (length (before_first is_feed piece))) answer
+    where
+      going-is : feed_taken c piece ≡ taken_for (feed_answer c piece) (current c) (length (before_first is_feed piece))
+      going-is = rw going refl
+
+  judged-is : feed_answer c piece ≡ judged (current c) (line_with (current c) piece)
+  judged-is = rw going refl
+
+  -- the line was cut at the first line feed of the piece
+  pub feed-cuts : (n : ℕ) → n ≡ feed_taken c piece → (rest : List ℕ) → new.last ≡ fed.Line → feed_answer c piece ≡ fed.Line → CutsLine c new (piece ++ rest) (drop n piece ++ rest)
+  feed-cuts n is_n rest last answer = by (list_any is_feed piece) refl (sym judged-is ∙ answer)
+    where
+      at_hand : List ℕ
+      at_hand = (current c).bytes
+
+      first : List ℕ
+      first = before_first is_feed piece
+
+      rest_of : List ℕ
+      rest_of = after_first is_feed piece
+
+      by : (b : Bool) → list_any is_feed piece ≡ b
+          → (if b then fed_by fed.Line (line_text (current c).room (current c).number (record { bytes = at_hand ++ first; is_ended = b })) else fed_by fed.More (within (current c).room (record { bytes = at_hand ++ first; is_ended = b }))) ≡ fed.Line
+          → CutsLine c new (piece ++ rest) (drop n piece ++ rest)
+      by false e h = absurd (more_not_line (within (current c).room (record { bytes = at_hand ++ first; is_ended = false })) h)
+      by true e h =
+          let after = after-is fed.Line answer in
+          let piece_is : piece ≡ first ++ 10 ∷ rest_of = cut_at_feed piece e in
+          let taken : n ≡ length first + 1 = is_n ∙ taken-is fed.Line answer in
+          let dropped : drop n piece ≡ rest_of =
+          ap (λ n. drop n piece) taken ∙ ap (drop (length first + 1)) (piece_is ∙ sym (append_assoc first (10 ∷ []) rest_of)) ∙ drop_at (first ++ 10 ∷ []) rest_of (length first + 1) (length-append first (10 ∷ [])) in
+          let bytes : new.bytes ≡ at_hand ++ first = ap (λ (c : Cutter). c.bytes) after in
+          let number : new.number ≡ (current c).number = ap (λ (c : Cutter). c.number) after in
+          let whole : at_hand ++ (piece ++ rest) ≡ (at_hand ++ first) ++ 10 ∷ (rest_of ++ rest) =
+          ap (λ t. at_hand ++ (t ++ rest)) piece_is ∙ (ap (λ t. at_hand ++ t) (append_assoc first (10 ∷ rest_of) rest) ∙ sym (append_assoc at_hand first (10 ∷ (rest_of ++ rest)))) in
+          let size : length piece ≡ length first + length (10 ∷ rest_of) = ap length piece_is ∙ length-append first (10 ∷ rest_of) in
+          let text : line_text (current c).room (current c).number (record { bytes = at_hand ++ first; is_ended = true }) ≡ Ok (text_of (current c).number (at_hand ++ first)) = line-told (current c).room (current c).number (at_hand ++ first) h in
+          rw dropped
+          (record {
+            bytes = whole ∙ ap (λ t. t ++ 10 ∷ (rest_of ++ rest)) (sym bytes);
+            text = rw (number, bytes) text;
+            room = ap (λ (c : Cutter). c.room) after;
+            number = number;
+            is_cut = last;
+            no_feed = is.no_feed;
+            later = omega (arith, size, length-append piece rest, length-append rest_of rest);
+          })
+
+  -- the whole piece was taken into the line
+  pub feed-grows : (n : ℕ) → n ≡ feed_taken c piece → (rest : List ℕ) → new.last ≡ fed.More → feed_answer c piece ≡ fed.More → n ≡ length piece → GrowsLine c new (piece ++ rest) (drop n piece ++ rest)
+  feed-grows n is_n rest last answer taken =
+      let after = after-is fed.More answer in
+      let same = current-more new last in
+      let all : length (before_first is_feed piece) ≡ length piece = sym (is_n ∙ taken-is fed.More answer) ∙ taken in
+      let long : length piece ≤ position_or_len is_feed piece = omega (arith, all, length-take (position_or_len is_feed piece) piece) in
+      let piece_is : before_first is_feed piece ≡ piece = take_all (position_or_len is_feed piece) piece long in
+      let bytes : (current new).bytes ≡ (current c).bytes ++ piece = ap (λ (c : Cutter). c.bytes) (same ∙ after) ∙ ap (λ t. (current c).bytes ++ t) piece_is in
+      let dropped : drop n piece ≡ [] = drop_all n piece (omega (arith, taken)) in
+      rw dropped
+      (record {
+        bytes = sym (append_assoc (current c).bytes piece rest) ∙ ap (λ t. t ++ rest) (sym bytes);
+        room = ap (λ (c : Cutter). c.room) (same ∙ after);
+        number = ap (λ (c : Cutter). c.number) (same ∙ after);
+        no_feed = ap (λ (c : Cutter). list_any is_feed c.bytes) same ∙ is.no_feed;
+        later = omega (arith, length-append piece rest);
+      })
 
 -- no piece ends the stream
 fed_by-not_ended : {A : Type 0} (passed : Fed) (r : Result A TelemWhy) → passed ≢ fed.Ended → fed_by passed r ≡ fed.Ended → ⊥
@@ -136,3 +238,8 @@ module _ (a b c : Option (List ℕ)) (old mid : Cutter) (left left' : List ℕ) 
       → BothTold a c (λ r r'. telemetry_owed inputs outputs old (left ++ r) ≡ no_header fault)
   header-refused inputs outputs h k = told-then a b c (λ r r'. telemetry_owed inputs outputs old (left ++ r) ≡ telemetry_owed inputs outputs mid (left' ++ r')) (λ r r'. TellsRefusal mid fault (left' ++ r)) (λ r r'. telemetry_owed inputs outputs old (left ++ r) ≡ no_header fault)
       (λ x y z p (q : TellsRefusal mid fault (left' ++ y)). p ∙ q.header inputs outputs) h k
+
+-- a stream with something at hand has not ended
+pub not-ended : (b : Bool) (xs : List ℕ) (P : Type 0) → (b ≡ true → (xs ≡ []) × P) → 0 < length xs → b ≡ false
+not-ended true xs P h some = let none = ap length (h refl).0 in absurd (omega (arith, none, some))
+not-ended false xs P h some = refl

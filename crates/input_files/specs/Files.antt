@@ -9,7 +9,7 @@ use Rattle.telem_csv.specs.declared.fault.TelemFault.{TelemFault}
 
 -- the most bytes of a telemetry
 abbrev pub most_telemetry : ℕ
-most_telemetry = 16_777_216
+most_telemetry = 1_073_741_824
 
 -- the model file is refused, or the header of the telemetry is; or the models, and the rows of the telemetry
 pub data Files : Type 0 where

@@ -4,3 +4,4 @@ pub mod Stream
 pub mod Left
 pub mod Files
 pub mod Told
+pub mod Ended

@@ -1,5 +1,6 @@
 -- A stream of telemetry lines, and what it has still to tell.
-use Rattle.std.specs.Prelude.{◌≡◌, ℕ, ◌<◌, ◌≤◌, length, List, ◌∷◌, ◌++◌, Option, Some, None, IfSome}
+use Rattle.std.specs.Prelude.{◌≡◌, ℕ, ◌<◌, ◌≤◌, true, false, length, List, [], ◌∷◌, ◌++◌, Option, Some, None, IfSome}
+use Rattle.std.specs.Io.KnownBytes.{IsAtEnd}
 use Rattle.outside_io.specs.Causes.{Rose}
 use Rattle.outside_io.specs.Shelf.{ShelfState, KeepsOthers}
 use Rattle.outside_io.specs.declared.shelf.GetFault.{GetFault}
@@ -91,6 +92,15 @@ pub record ReadsOn (slot : ℕ) (before after : ShelfState) : Type 0 where
 -- where reading this slot failed, its count of faults rose
 abbrev pub HasReadCause : ℕ → ShelfState → ShelfState → StreamFault → Type 0
 HasReadCause slot before after fault = fault ≡ Read → Rose (before.slot slot).faults (after.slot slot).faults
+
+-- a stream that has ended has nothing at hand, and its slot gives no more
+abbrev pub IsEndedAt : ℕ → Stream → ShelfState → Type 0
+IsEndedAt slot stream shelf = stream.is_ended ≡ true → (left_of stream ≡ []) × IsAtEnd (shelf.slot slot).rest
+
+-- reading the slot failed: the stream had not ended, and what it has unread is what its slot has left
+pub record FailsAtSlot (before after : Stream) : Type 0 where
+  pub unended : before.is_ended ≡ false
+  pub used : left_of after ≡ []
 
 -- a line that goes on grows by the piece
 pub record GoesOn (c new : Cutter) (piece : List ℕ) : Type 0 where

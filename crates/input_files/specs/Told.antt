@@ -1,5 +1,5 @@
 -- Claims on files that a shelf tells, and how the reading of a slot ended.
-use Rattle.std.specs.Prelude.{◌≡◌, ℕ, List, Option, Some, IfSome}
+use Rattle.std.specs.Prelude.{◌≡◌, ℕ, true, List, length, Option, Some, IfSome}
 use Rattle.std.specs.Io.KnownBytes.{IsAtEnd}
 use Rattle.outside_io.specs.Causes.{Rose}
 use Rattle.outside_io.specs.Shelf.{SlotState, ShelfState}
@@ -26,3 +26,8 @@ pub record AreRead (shelf : ShelfState) : Type 0 where
 pub record ReadFailed (name : List ℕ) (before after : SlotState) : Type 0 where
   pub rose : Rose before.faults after.faults
   pub was_asked : after.asked ≡ Some name
+
+-- a claim on both files and on how many bytes slot 1 has left, where it is attached and these are told
+abbrev pub OnLeft : (before after : ShelfState) → (model telemetry : List ℕ) → (List ℕ → List ℕ → ℕ → Type 0) → Type 0
+OnLeft before after model telemetry claim = (after.slot 1).attached ≡ true
+    → OnBytes (before.file model) (before.file telemetry) (λ m t. IfSome (after.slot 1).rest (λ r. claim m t (length r)))

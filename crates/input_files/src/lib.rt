@@ -11,4 +11,4 @@ pub use rows::{TELEMETRY_SLOT, find_header, next_row};
 pub use stream::{Stream, StreamFault};
 
 /// The longest telemetry, in bytes.
-pub const MOST_TELEMETRY: u64 = 16_777_216;
+pub const MOST_TELEMETRY: u64 = 1_073_741_824;

@@ -1,11 +1,11 @@
 //! The model file, read whole and judged.
-ghost use Rattle.std.specs.Prelude.{◌≡◌, ◌≢◌, ℕ, ◌≤◌, None, Ok, Err, IfOk, IfErr, OnOk};
+ghost use Rattle.std.specs.Prelude.{◌≡◌, ◌≢◌, ℕ, ◌≤◌, ◌+◌, None, Ok, Err, IfOk, IfErr, OnOk};
 ghost use Rattle.std.specs.Io.KnownBytes.{IsAtEnd};
 ghost use Rattle.outside_io.specs.Shelf.{KeepsOthers};
 ghost use Rattle.model_file.specs.ModelFile.{models_of};
 ghost use Rattle.input_files.specs.Judged.{is_memory, JudgesModel, IsModelEnding};
 ghost use Rattle.input_files.specs.Told.{OnFile, ReadFailed};
-ghost use Rattle.input_files.specs.Whole.{IsAskedAtMost};
+ghost use Rattle.input_files.specs.Whole.{IsAskedAtMost, TakesAtMost, most_model, most_piece};
 
 use crate::whole::read_whole;
 use model_file::{Bank0, ModelFault, read_models};
@@ -37,6 +37,7 @@ pub fn read_model<F: Shelf>(alloc: Global, shelf: &mut F, model: &str) -> Result
     ensures faults { IfErr result IsModelEnding }
     ensures read { result ≡ Err ModelEnding.Read → ReadFailed model.now ((F.state shelf.old).slot 0) ((F.state shelf.new).slot 0) }
     ensures at_end { OnOk result (IsAtEnd ((F.state shelf.new).slot 0).rest) }
+    ensures taken { TakesAtMost (most_model + most_piece) ((F.state shelf.old).file model.now) ((F.state shelf.new).slot 0) }
     ensures asked { IsAskedAtMost model.now ((F.state shelf.new).slot 0) }
     ensures others { KeepsOthers 0 (F.state shelf.old) (F.state shelf.new) }
     ensures later { ((F.state shelf.old).slot 0).faults ≤ ((F.state shelf.new).slot 0).faults }

@@ -1,9 +1,11 @@
 //! The telemetry as a stream of lines, read from its slot in pieces.
 ghost use Rattle.std.specs.Prelude.{◌≡◌, ◌≢◌, ℕ, ◌<◌, ◌≤◌, List, [], ◌++◌, length, false, true, IfOk, OnOk, IfErr};
+ghost use Rattle.std.specs.List.{list_any};
 ghost use Rattle.std.specs.Io.KnownBytes.{IsAtEnd};
 ghost use Rattle.telem_csv.specs.Columns.{Columns};
 ghost use Rattle.telem_csv.specs.Cutter.{at_start, current, rows_owed, rows_after, telemetry_owed, telemetry_after};
 ghost use Rattle.telem_csv.specs.Fed.{is_refusal, cause_of};
+ghost use Rattle.telem_csv.specs.Lines.{is_feed};
 ghost use Rattle.telem_csv.specs.Rows.{refused_at};
 
 use outside_io::{GetFault, Shelf};
@@ -42,26 +44,32 @@ pub struct Stream {
     /// What is left of it goes from here to `end`.
     pub at: usize,
     pub end: usize,
+    /// Whether the slot gave no more bytes: nothing is read from then on.
+    pub is_ended: bool,
     ghost within: { at ≤ end },
     ghost short: { end ≤ 4096 },
+    ghost no_feed: { list_any is_feed cutter.bytes ≡ false },
 }
 
 impl Stream {
     ghost use Rattle.input_files.specs.Left.{left_of};
     ghost use Rattle.input_files.specs.Stream.{BothTold, GoesOn, OnUnread, ReadsOn, HasReadCause};
-    ghost use Rattle.input_files.specs.Stream.{TellsLine, TellsEnd, TellsRefusal};
+    ghost use Rattle.input_files.specs.Stream.{TellsLine, TellsEnd, TellsRefusal, IsEndedAt, FailsAtSlot};
+    ghost use Rattle.input_files.specs.Ended.{CutsLine, GrowsLine, TakesLine, TakesNoLine, EndsNoLine};
 
     /// Before the first byte of a telemetry of at most `limit` bytes.
     pub fn new(limit: u64) -> Stream
         requires { limit ≤ 4611686018427387904 }
         ensures cutter { result.cutter ≡ at_start limit }
         ensures left { left_of result ≡ [] }
+        ensures is_ended { result.is_ended ≡ false }
     {
         Stream {
             cutter: LineCutter::new(limit),
             piece: [0; 4096],
             at: 0,
             end: 0,
+            is_ended: false,
         }
     }
 
@@ -70,19 +78,36 @@ impl Stream {
         requires slot { slot < 3 }
         requires attached { ((F.state shelf.old).slot slot).attached ≡ true }
         requires going { is_refusal self.old.cutter.last ≡ false }
+        requires ended { IsEndedAt slot self.old (F.state shelf.old) }
         ensures line { IfOk result (λ b. b ≡ true
             → OnUnread slot self.old (F.state shelf.old) self.new (F.state shelf.new)
             (TellsLine self.old.cutter self.new.cutter)) }
         ensures cut { IfOk result (λ b. b ≡ true → self.new.cutter.last ≡ Fed.Line) }
         ensures fewer { IfOk result (λ b. b ≡ true → (current self.new.cutter).room < (current self.old.cutter).room) }
+
+        // The line ended with the last byte that was taken, or stands at the end of the stream.
+        ensures takes { IfOk result (λ b. b ≡ true
+            → OnUnread slot self.old (F.state shelf.old) self.new (F.state shelf.new)
+            (TakesLine self.new.is_ended self.old.cutter self.new.cutter)) }
         ensures end { IfOk result (λ b. b ≡ false
             → OnUnread slot self.old (F.state shelf.old) self.new (F.state shelf.new)
             (λ unread _. TellsEnd self.old.cutter unread)) }
+        ensures no_more { IfOk result (λ b. b ≡ false
+            → OnUnread slot self.old (F.state shelf.old) self.new (F.state shelf.new) (EndsNoLine self.old.cutter)) }
         ensures at_end { IfOk result (λ b. b ≡ false → IsAtEnd ((F.state shelf.new).slot slot).rest) }
         ensures refused { IfErr result (λ e. (fault : TelemFault) → e ≡ StreamFault.Refused fault
             → OnUnread slot self.old (F.state shelf.old) self.new (F.state shelf.new)
             (λ unread _. TellsRefusal self.old.cutter fault unread)) }
         ensures read { IfErr result (HasReadCause slot (F.state shelf.old) (F.state shelf.new)) }
+
+        // Reading failed: all that was read was used, and no line ended in it.
+        ensures failed { IfErr result (λ e. e ≡ StreamFault.Read → FailsAtSlot self.old self.new) }
+        ensures no_line { IfErr result (λ e. e ≡ StreamFault.Read
+            → OnUnread slot self.old (F.state shelf.old) self.new (F.state shelf.new) (TakesNoLine self.old.cutter)) }
+
+        // A stream that has ended has nothing at hand, and its slot gives no more.
+        ensures ended { IsEndedAt slot self.new (F.state shelf.new) }
+        ensures stays { self.new.is_ended ≡ false → self.old.is_ended ≡ false }
         ensures kept { ReadsOn slot (F.state shelf.old) (F.state shelf.new) }
     {
         loop {
@@ -101,19 +126,27 @@ impl Stream {
     fn has_bytes<F: Shelf>(&mut self, shelf: &mut F, slot: usize) -> Result<bool, StreamFault>
         requires slot { slot < 3 }
         requires attached { ((F.state shelf.old).slot slot).attached ≡ true }
+        requires ended { IsEndedAt slot self.old (F.state shelf.old) }
         ensures cutter { self.new.cutter ≡ self.old.cutter }
-        ensures bytes { OnOk result
-            (OnUnread slot self.old (F.state shelf.old) self.new (F.state shelf.new) (λ before after. before ≡ after)) }
+        ensures bytes { OnUnread slot self.old (F.state shelf.old) self.new (F.state shelf.new) (λ before after. before ≡ after) }
         ensures some { IfOk result (λ b. b ≡ true → 0 < length (left_of self.new)) }
+        ensures going { IfOk result (λ b. b ≡ true → self.new.is_ended ≡ false) }
         ensures none { IfOk result (λ b. b ≡ false
             → OnUnread slot self.old (F.state shelf.old) self.new (F.state shelf.new) (λ _ unread. unread ≡ [])) }
         ensures at_end { IfOk result (λ b. b ≡ false → IsAtEnd ((F.state shelf.new).slot slot).rest) }
         ensures read { IfErr result (HasReadCause slot (F.state shelf.old) (F.state shelf.new)) }
         ensures not_refused { IfErr result (λ e. (fault : TelemFault) → e ≢ StreamFault.Refused fault) }
+        ensures failed { IfErr result (λ _. FailsAtSlot self.old self.new) }
+        ensures last { IfOk result (λ b. b ≡ false → self.new.is_ended ≡ true) }
+        ensures ended { IsEndedAt slot self.new (F.state shelf.new) }
+        ensures stays { self.new.is_ended ≡ false → self.old.is_ended ≡ false }
         ensures kept { ReadsOn slot (F.state shelf.old) (F.state shelf.new) }
     {
         if self.at < self.end {
             return Ok(true);
+        }
+        if self.is_ended {
+            return Ok(false);
         }
         self.fill(shelf, slot)
     }
@@ -123,20 +156,25 @@ impl Stream {
         requires slot { slot < 3 }
         requires attached { ((F.state shelf.old).slot slot).attached ≡ true }
         requires used { self.old.at ≡ self.old.end }
+        requires unended { self.old.is_ended ≡ false }
         ensures cutter { self.new.cutter ≡ self.old.cutter }
-        ensures bytes { OnOk result
-            (BothTold ((F.state shelf.old).slot slot).rest ((F.state shelf.new).slot slot).rest
-            (λ before after. before ≡ left_of self.new ++ after)) }
+        ensures bytes { BothTold ((F.state shelf.old).slot slot).rest ((F.state shelf.new).slot slot).rest
+            (λ before after. before ≡ left_of self.new ++ after) }
         ensures some { IfOk result (λ b. b ≡ true → 0 < length (left_of self.new)) }
+        ensures going { IfOk result (λ b. b ≡ true → self.new.is_ended ≡ false) }
         ensures none { IfOk result (λ b. b ≡ false → left_of self.new ≡ []) }
         ensures at_end { IfOk result (λ b. b ≡ false → IsAtEnd ((F.state shelf.new).slot slot).rest) }
         ensures read { IfErr result (HasReadCause slot (F.state shelf.old) (F.state shelf.new)) }
         ensures not_refused { IfErr result (λ e. (fault : TelemFault) → e ≢ StreamFault.Refused fault) }
+        ensures failed { IfErr result (λ _. left_of self.new ≡ []) }
+        ensures last { IfOk result (λ b. b ≡ false → self.new.is_ended ≡ true) }
+        ensures ended { IsEndedAt slot self.new (F.state shelf.new) }
         ensures kept { ReadsOn slot (F.state shelf.old) (F.state shelf.new) }
     {
         let count = shelf.next(slot, &mut self.piece)?;
         self.at = 0;
         self.end = count;
+        self.is_ended = count == 0;
         Ok(count > 0)
     }
 
@@ -150,9 +188,14 @@ impl Stream {
             → telemetry_owed inputs outputs self.old.cutter (left_of self.old ++ rest)
             ≡ telemetry_after inputs outputs result self.new.cutter (left_of self.new ++ rest) }
         ensures line { result ≡ Fed.Line → (current self.new.cutter).room < (current self.old.cutter).room }
+        ensures cuts { result ≡ Fed.Line → (rest : List ℕ)
+            → CutsLine self.old.cutter self.new.cutter (left_of self.old ++ rest) (left_of self.new ++ rest) }
+        ensures grows { result ≡ Fed.More → (rest : List ℕ)
+            → GrowsLine self.old.cutter self.new.cutter (left_of self.old ++ rest) (left_of self.new ++ rest) }
         ensures more { result ≡ Fed.More → GoesOn self.old.cutter self.new.cutter (left_of self.old) }
         ensures used { result ≡ Fed.More → self.new.at ≡ self.new.end }
         ensures not_ended { result ≢ Fed.Ended }
+        ensures is_ended { self.new.is_ended ≡ self.old.is_ended }
         ensures last { self.new.cutter.last ≡ result }
     {
         let piece: &[u8] = &self.piece;
@@ -170,6 +213,7 @@ impl Stream {
             → telemetry_owed inputs outputs self.old.cutter []
             ≡ telemetry_after inputs outputs self.new.cutter.last self.new.cutter [] }
         ensures fewer { self.new.cutter.last ≡ Fed.Line → (current self.new.cutter).room < (current self.old.cutter).room }
+        ensures is_ended { self.new.is_ended ≡ self.old.is_ended }
         ensures left { left_of self.new ≡ left_of self.old }
         ensures line { IfOk result (λ b. b ≡ true → self.new.cutter.last ≡ Fed.Line) }
         ensures end { IfOk result (λ b. b ≡ false → self.new.cutter.last ≡ Fed.Ended) }

@@ -50,7 +50,7 @@ pub lines-append : (xs ys : List Line) → lines_text (xs ++ ys) ≡ lines_text 
 lines-append xs ys = flat_map-append put_text xs ys
 
 -- more samples put more lines behind those of the first ones
-lines-longer : (ps : List Plant) (samples : List Sample) (n j : ℕ) → (tail : List Line) × (due_lines ps samples (n + j) ≡ due_lines ps samples n ++ tail)
+pub lines-longer : (ps : List Plant) (samples : List Sample) (n j : ℕ) → (tail : List Line) × (due_lines ps samples (n + j) ≡ due_lines ps samples n ++ tail)
 unfolding samples_lines
 lines-longer ps samples n zero = let e : n + 0 ≡ n = omega arith in ([], rw e (sym (append-nil (due_lines ps samples n))))
 lines-longer ps samples n (suc j) =

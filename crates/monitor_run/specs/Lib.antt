@@ -1,3 +1,4 @@
 pub mod Reports
 pub mod Outcome
 pub mod Rows
+pub mod InTime

@@ -1,15 +1,18 @@
 //! A run from its two files to its report.
-ghost use Rattle.std.specs.Prelude.{◌≡◌, ◌<◌, ◌≤◌, ◌^◌, List, [], ◌∷◌, length, true, false, None, Some, IfOk, OnOk};
+ghost use Rattle.std.specs.Prelude.{◌≡◌, ◌<◌, ◌≤◌, ◌+◌, ◌^◌, List, [], ◌∷◌, length, true, false, None, Some, IfOk, OnOk};
 ghost use Rattle.outside_io.specs.Shelf.{IsFresh, KeepsOthers};
 ghost use Rattle.plant_model.specs.Plant.{Plant};
 ghost use Rattle.report_text.specs.Line.{end};
 ghost use Rattle.telem_csv.specs.Cutter.{current};
 ghost use Rattle.telem_csv.specs.Columns.{AreFor};
 ghost use Rattle.telem_csv.specs.Fed.{is_refusal};
-ghost use Rattle.input_files.specs.Stream.{OnRows, ReadsOn};
+ghost use Rattle.input_files.specs.Ended.{without_last, rows_ended, begun_with};
+ghost use Rattle.input_files.specs.Stream.{OnRows, ReadsOn, IsEndedAt};
 ghost use Rattle.input_files.specs.Files.{files_with};
-ghost use Rattle.input_files.specs.Told.{OnFile, OnFiles, AreRead};
-ghost use Rattle.input_files.specs.Whole.{IsAskedAtMost};
+ghost use Rattle.input_files.specs.Told.{OnFile, OnFiles, OnLeft, AreRead};
+ghost use Rattle.input_files.specs.Whole.{IsAskedAtMost, TakesAtMost, most_model, most_piece};
+ghost use Rattle.monitor_run.specs.InTime.{PutsInTime, RowsInTime, OnTaken, OnUnreadLeft};
+ghost use Rattle.monitor_run.specs.InTime.{begun_of, lines_begun, report_begun, rows_begun};
 ghost use Rattle.monitor_run.specs.Reports.{report_of, report_of_rows};
 ghost use Rattle.monitor_run.specs.Outcome.{SaysOfModel, SaysOfFiles, PutsReport, PutsNothing};
 ghost use Rattle.monitor_run.specs.Outcome.{AsksInOrder, IfRead, ReadsFailed, HasWriteCause};
@@ -40,6 +43,13 @@ pub fn monitor<F: Shelf, O: Sink>(
     ensures says_files { OnFiles (F.state shelf.old) model.now telemetry.now (SaysOfFiles result) }
     ensures puts { OnFiles (F.state shelf.old) model.now telemetry.now
         (λ files. PutsReport (report_of files) (O.state out.old) result (O.state out.new)) }
+
+    // Where reading the telemetry failed, the lines of all that was read were put, and where a put failed, nothing was read ahead.
+    ensures in_time { OnLeft (F.state shelf.old) (F.state shelf.new) model.now telemetry.now
+        (λ m t left. PutsInTime (lines_begun m t) left (O.state out.old) result (O.state out.new)) }
+    ensures model_taken { TakesAtMost (most_model + most_piece) ((F.state shelf.old).file model.now) ((F.state shelf.new).slot 0) }
+
+    // A run that ended at the model file has put nothing.
     ensures nothing { PutsNothing (O.state out.old) result (O.state out.new) }
     ensures read { IfRead result (ReadsFailed model.now telemetry.now (F.state shelf.old) (F.state shelf.new)) }
     ensures write { HasWriteCause (O.state out.old) result (O.state out.new) }
@@ -62,6 +72,9 @@ fn monitor_models<F: Shelf, O: Sink>(
     ensures says { OnFile (F.state shelf.old) telemetry.now (λ t. SaysOfFiles result (files_with models t)) }
     ensures puts { OnFile (F.state shelf.old) telemetry.now
         (λ t. PutsReport (report_of (files_with models t)) (O.state out.old) result (O.state out.new)) }
+    ensures in_time { OnTaken (F.state shelf.old) (F.state shelf.new) telemetry.now
+        (λ t left. PutsInTime (λ k. begun_of (begun_with models (without_last k t)))
+        left (O.state out.old) result (O.state out.new)) }
     ensures ends { EndsRun (F.state shelf.old) (F.state shelf.new) (O.state out.old) result (O.state out.new) }
     ensures asked { IsAskedAtMost telemetry.now ((F.state shelf.new).slot 1) }
     ensures asked_unread { IfRead result (λ _. ((F.state shelf.new).slot 1).asked ≡ Some telemetry.now) }
@@ -87,11 +100,15 @@ fn put_report<F: Shelf, O: Sink>(
 ) -> Result<Done, RunFault>
     requires attached { ((F.state shelf.old).slot 1).attached ≡ true }
     requires going { is_refusal stream.old.cutter.last ≡ false }
+    requires ended { IsEndedAt 1 stream.old (F.state shelf.old) }
     requires columns { AreFor models.inputs models.outputs head.now }
     requires short { (current stream.old.cutter).room < 2 ^ 63 }
     ensures says { OnRows 1 head.now stream.old (F.state shelf.old) (SaysOfRows result) }
     ensures puts { OnRows 1 head.now stream.old (F.state shelf.old)
         (λ rows. PutsReport (report_of_rows models rows) (O.state out.old) result (O.state out.new)) }
+    ensures in_time { OnUnreadLeft stream.old (F.state shelf.old) (F.state shelf.new) (λ unread left. RowsInTime
+        (λ k. report_begun models (rows_ended head.now stream.old.cutter (without_last k unread)))
+        stream.old.is_ended (length unread) left (O.state out.old) result (O.state out.new)) }
     ensures ends { EndsRun (F.state shelf.old) (F.state shelf.new) (O.state out.old) result (O.state out.new) }
     ensures kept { ReadsOn 1 (F.state shelf.old) (F.state shelf.new) }
 {
@@ -113,6 +130,7 @@ fn put_rows<F: Shelf, O: Sink>(
 ) -> Result<Done, RunFault>
     requires attached { ((F.state shelf.old).slot 1).attached ≡ true }
     requires going { is_refusal stream.old.cutter.last ≡ false }
+    requires ended { IsEndedAt 1 stream.old (F.state shelf.old) }
     requires inputs { length head.now.inputs ≡ bank.old.inputs }
     requires outputs { length head.now.outputs ≡ bank.old.outputs }
     requires begins { bank.old.count ≡ 0 }
@@ -120,6 +138,10 @@ fn put_rows<F: Shelf, O: Sink>(
     ensures says { OnRows 1 head.now stream.old (F.state shelf.old) (SaysOfRows result) }
     ensures puts { (ps : List Plant) → StandsDue ps [] bank.old → OnRows 1 head.now stream.old (F.state shelf.old)
         (λ rows. PutsReport (rows_lines ps rows) (O.state out.old) result (O.state out.new)) }
+    ensures in_time { (ps : List Plant) → StandsDue ps [] bank.old
+        → OnUnreadLeft stream.old (F.state shelf.old) (F.state shelf.new) (λ unread left. RowsInTime
+        (λ k. rows_begun ps (rows_ended head.now stream.old.cutter (without_last k unread)))
+        stream.old.is_ended (length unread) left (O.state out.old) result (O.state out.new)) }
     ensures ends { EndsRun (F.state shelf.old) (F.state shelf.new) (O.state out.old) result (O.state out.new) }
     ensures kept { ReadsOn 1 (F.state shelf.old) (F.state shelf.new) }
 {

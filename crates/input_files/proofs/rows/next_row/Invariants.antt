@@ -1,7 +1,8 @@
 use Rattle.std.proofs.Common.{◌≡◌, ◌≤◌, false}
 use Rattle.telem_csv.specs.Cutter.{current, rows_owed}
 use Rattle.telem_csv.specs.Fed.{is_refusal}
-use Rattle.input_files.specs.Stream.{OnUnread, ReadsOn}
+use Rattle.input_files.specs.Stream.{OnUnread, ReadsOn, IsEndedAt}
+use Rattle.input_files.proofs.Ended.{PassesRows}
 use Rattle.input_files.proofs.rows.next_row.Given as goal
 
 abbrev pub invariant-lines : goal.invariant-lines
@@ -9,6 +10,9 @@ invariant-lines g l = record {
   going : is_refusal l.stream.cutter.last ≡ false;
   same : OnUnread 1 l.fn.stream (g.F.Shelf.state l.fn.shelf) l.stream (g.F.Shelf.state l.shelf)
       (λ u u'. rows_owed l.head l.fn.stream.cutter u ≡ rows_owed l.head l.stream.cutter u');
+  ends : OnUnread 1 l.fn.stream (g.F.Shelf.state l.fn.shelf) l.stream (g.F.Shelf.state l.shelf) (PassesRows l.head l.stream.is_ended l.fn.stream.cutter l.stream.cutter);
+  ended : IsEndedAt 1 l.stream (g.F.Shelf.state l.shelf);
+  stays : l.stream.is_ended ≡ false → l.fn.stream.is_ended ≡ false;
   room : (current l.stream.cutter).room ≤ (current l.fn.stream.cutter).room;
   kept : ReadsOn 1 (g.F.Shelf.state l.fn.shelf) (g.F.Shelf.state l.shelf);
 }

@@ -6,6 +6,7 @@ use Rattle.input_files.proofs.whole.read_whole.Given as goal
 abbrev pub invariant-loop-piece : goal.invariant-loop-piece
 invariant-loop-piece g l = record {
   taken : Consumes ((g.F.Shelf.state l.fn.shelf).file l.name) ((g.F.Shelf.state l.shelf).slot l.slot).rest l.bytes.items;
+  few : vec_len l.bytes ≤ l.limit + 4096;
   attached : ((g.F.Shelf.state l.shelf).slot l.slot).attached ≡ true;
   asked : ((g.F.Shelf.state l.shelf).slot l.slot).asked ≡ Some l.name;
   others : KeepsOthers l.slot (g.F.Shelf.state l.fn.shelf) (g.F.Shelf.state l.shelf);

@@ -1,10 +1,13 @@
-use Rattle.std.proofs.Common.{◌++◌}
+use Rattle.std.proofs.Common.{◌++◌, length}
 use Rattle.std.proofs.lemmas.Result.{err_from_is_err_and}
 use Rattle.outside_io.proofs.Fronts.{all-front}
 use Rattle.telem_csv.specs.Cutter.{rows_owed}
 use Rattle.report_text.specs.Line.{lines_text}
 use Rattle.report_rules.specs.Lines.{head_lines}
 use Rattle.model_bank.specs.Bank.{names_in, plants_in}
+use Rattle.input_files.specs.Ended.{rows_ended, without_last}
+use Rattle.monitor_run.specs.InTime.{report_begun}
+use Rattle.monitor_run.proofs.InTime.{head-in_time, behind-head-in_time, some-both, piece-short}
 use Rattle.monitor_run.specs.Reports.{report_of_rows}
 use Rattle.input_files.specs.Left.{left_of}
 use Rattle.monitor_run.proofs.Turns.{put-cut, begun-due}
@@ -34,3 +37,21 @@ returns-in-Ok-clause-puts g c =
     (λ r h. behind-head c.args.models (g.O.Sink.state c.args.out.now) (g.O.Sink.state c.put_head.new.out) (g.O.Sink.state c.put_rows.new.out) c.in_ok-put_head.ensures.whole c.put_rows.result
     (rows_owed c.args.head.now c.args.stream.now.cutter (left_of c.args.stream.now ++ r)) c.put_rows.ensures.ends.faults h)
     (c.put_rows.ensures.puts (plants_in c.args.models) (begun-due (plants_in c.args.models) _ c.in-Ok.ensures.stands))
+
+pub returns-in_err-put_head-clause-in_time : goal.returns-in_err-put_head-clause-in_time
+returns-in_err-put_head-clause-in_time g c =
+    let p = err_from_is_err_and c.from_residual.result c.from_residual.ensures.1 in
+    rw p.1
+    (head-in_time c.in_err-put_head.field-0.0 p.0 p.2 (λ unread k. report_begun c.args.models (rows_ended c.args.head.now c.args.stream.now.cutter (without_last k unread))) c.args.stream.now.is_ended (left_of c.args.stream.now) ((g.F.Shelf.state c.args.shelf.now).slot 1).rest
+    (g.O.Sink.state c.args.out.now) (g.O.Sink.state c.put_head.new.out) (piece-short c.args.stream.now.piece c.args.stream.now.at c.args.stream.now.end c.args.stream.now.short))
+
+pub returns-in-Err-clause-in_time : goal.returns-in-Err-clause-in_time
+returns-in-Err-clause-in_time g c = some-both ((g.F.Shelf.state c.args.shelf.now).slot 1).rest ((g.F.Shelf.state c.args.shelf.now).slot 1).rest _ (λ r r'. tt)
+
+pub returns-in-Ok-clause-in_time : goal.returns-in-Ok-clause-in_time
+returns-in-Ok-clause-in_time g c =
+    if-some ((g.F.Shelf.state c.args.shelf.now).slot 1).rest _ _
+    (λ r h. if-some ((g.F.Shelf.state c.put_rows.new.shelf).slot 1).rest _ _
+    (λ r' h'. behind-head-in_time c.args.models (g.O.Sink.state c.args.out.now) (g.O.Sink.state c.put_head.new.out) (g.O.Sink.state c.put_rows.new.out) c.in_ok-put_head.ensures.whole
+    (λ k. rows_ended c.args.head.now c.args.stream.now.cutter (without_last k (left_of c.args.stream.now ++ r))) c.args.stream.now.is_ended (length (left_of c.args.stream.now ++ r)) (length r') c.put_rows.result h') h)
+    (c.put_rows.ensures.in_time (plants_in c.args.models) (begun-due (plants_in c.args.models) _ c.in-Ok.ensures.stands))

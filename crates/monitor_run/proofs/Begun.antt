@@ -1,0 +1,116 @@
+-- What was put in time for the rows behind a header was put in time for the telemetry, and for both files.
+use Rattle.std.proofs.Common.{◌≡◌, ℕ, ◌+◌, ◌<◌, ◌≤◌, Bool, true, false, List, [], ◌++◌, length, take, Option, Some, None, IfSome, Result, Ok, Err, refl, sym, ap, ◌∙◌, subst, arith, ◌⊎◌, inl, inr}
+use Rattle.std.specs.Prelude.{is_some}
+use Rattle.outside_io.specs.Sink.{SinkState, Gains}
+use Rattle.outside_io.proofs.Grows.{appends_none}
+use Rattle.telem_csv.specs.Columns.{Columns}
+use Rattle.telem_csv.specs.Cutter.{Cutter, at_start}
+use Rattle.telem_csv.specs.Telemetry.{Telemetry as Told}
+use Rattle.model_file.specs.Bank.{Models}
+use Rattle.model_file.specs.ModelFile.{models_of}
+use Rattle.report_text.specs.Line.{Line, lines_text}
+use Rattle.input_files.specs.Ended.{without_last, rows_ended, TakesNoHeader, TakesHeader, begun_with, begun_under, files_begun}
+use Rattle.input_files.specs.Stream.{BothTold}
+use Rattle.input_files.specs.Files.{most_telemetry, with_telemetry}
+use Rattle.input_files.specs.Told.{OnBytes}
+use Rattle.input_files.specs.Whole.{most_piece}
+use Rattle.input_files.specs.declared.stream.StreamFault.{StreamFault}
+use Rattle.input_files.specs.declared.stream.StreamFault.TheVariants as stream
+use Rattle.input_files.specs.declared.model.ModelEnding.{ModelEnding}
+use Rattle.input_files.specs.declared.model.ModelEnding.TheVariants as models
+use Rattle.monitor_run.specs.declared.done.Done.{Done}
+use Rattle.monitor_run.specs.declared.done.RunFault.{RunFault}
+use Rattle.monitor_run.specs.declared.done.RunFault.TheVariants.{Model, Telemetry, Read, Write, Memory}
+use Rattle.monitor_run.specs.Outcome.{PutsReport}
+use Rattle.monitor_run.specs.Rows.{ending_of, model_ending}
+use Rattle.monitor_run.specs.InTime.{report_begun, begun_of, lines_begun, GainsAtLeast, PutsInTime, RowsInTime}
+use Rattle.monitor_run.proofs.Opened.{if-some, of-some}
+use Rattle.monitor_run.proofs.InTime.{side, false-or-true, both-some, some-both}
+
+-- nothing is due where there is no header
+nothing-due : (ms : Models) (t : List ℕ) (held : SinkState) → begun_of (begun_with ms t) ≡ [] → Gains (lines_text (begun_of (begun_with ms t))) held held
+nothing-due ms t held none = subst (λ ls. Gains (lines_text ls) held held) (sym none) (appends_none held.held)
+
+module _ (ms : Models) (held held' : SinkState) where
+  abbrev due : List ℕ → ℕ → List Line
+  due t k = begun_of (begun_with ms (without_last k t))
+
+  -- ---- behind a header
+
+  module _ (head : Columns) (e : Bool) (c : Cutter) (t unread : List ℕ) (taken : TakesHeader ms.inputs ms.outputs head e (at_start most_telemetry) c ([] ++ t) unread) where
+    abbrev begun : ℕ → List Line
+    begun k = report_begun ms (rows_ended head c (without_last k unread))
+
+    due-behind : e ≡ false → (k : ℕ) → k ≤ length unread → due t k ≡ begun k
+    due-behind f k h = ap (λ (told : Told). begun_of (with_telemetry ms told)) (taken.header f k h)
+
+    due-before : (k : ℕ) → length unread < k → due t k ≡ []
+    due-before k h = ap (λ (told : Told). begun_of (with_telemetry ms told)) (taken.before k h)
+
+    header-in_time : (r : Result Done RunFault) (left : ℕ) (lines : List Line) → RowsInTime begun e (length unread) left held r held' → PutsReport lines held r held' → PutsInTime (due t) left held r held'
+    header-in_time (Ok done) left lines h put = tt
+    header-in_time (Err (Model fault)) left lines h put = tt
+    header-in_time (Err (Telemetry fault)) left lines h put = tt
+    header-in_time (Err (Read slot)) left lines h put = λ _. subst (λ ls. Gains (lines_text ls) held held') (sym (due-behind h.unended left h.later)) h.lines
+    header-in_time (Err Write) left lines h put = by (side (left + most_piece + 1) (length unread)) (false-or-true e)
+      where
+        by : (left + most_piece + 1 ≤ length unread) ⊎ (length unread < left + most_piece + 1) → (e ≡ false) ⊎ (e ≡ true) → GainsAtLeast (lines_text (due t (left + most_piece + 1))) held held'
+        by (inr past) ended = subst (λ ls. GainsAtLeast (lines_text ls) held held') (sym (due-before (left + most_piece + 1) past)) (take put.0 (lines_text lines), put.2)
+        by (inl few) (inl going) = subst (λ ls. GainsAtLeast (lines_text ls) held held') (sym (due-behind going (left + most_piece + 1) few)) (h few)
+        by (inl few) (inr ended) = let none = ap length (taken.ended ended) in absurd (omega (arith, none, few))
+    header-in_time (Err Memory) left lines h put = tt
+
+  -- the run behind the header, and the telemetry from its first byte
+  pub behind-header : (head : Columns) (e : Bool) (c : Cutter) (left : List ℕ) (file opened rest rest' : Option (List ℕ)) → opened ≡ file → (r : Result Done RunFault) (lines : List ℕ → List Line)
+      → BothTold opened rest (λ t q. TakesHeader ms.inputs ms.outputs head e (at_start most_telemetry) c ([] ++ t) (left ++ q))
+      → IfSome rest (λ q. IfSome rest' (λ q'. RowsInTime (λ k. report_begun ms (rows_ended head c (without_last k (left ++ q)))) e (length (left ++ q)) (length q') held r held'))
+      → IfSome rest (λ q. PutsReport (lines q) held r held') → IfSome file (λ t. IfSome rest' (λ q'. PutsInTime (due t) (length q') held r held'))
+  behind-header head e c left file opened rest rest' is r lines taken time put = subst (λ f. IfSome f (λ t. IfSome rest' (λ q'. PutsInTime (due t) (length q') held r held'))) is (by opened rest rest' taken time put)
+    where
+      by : (opened rest rest' : Option (List ℕ)) → BothTold opened rest (λ t q. TakesHeader ms.inputs ms.outputs head e (at_start most_telemetry) c ([] ++ t) (left ++ q))
+          → IfSome rest (λ q. IfSome rest' (λ q'. RowsInTime (λ k. report_begun ms (rows_ended head c (without_last k (left ++ q)))) e (length (left ++ q)) (length q') held r held'))
+          → IfSome rest (λ q. PutsReport (lines q) held r held') → IfSome opened (λ t. IfSome rest' (λ q'. PutsInTime (due t) (length q') held r held'))
+      by None rest rest' taken time put = tt
+      by (Some t) None rest' taken time put = absurd taken
+      by (Some t) (Some q) None taken time put = tt
+      by (Some t) (Some q) (Some q') taken time put = header-in_time head e c t (left ++ q) taken r (length q') (lines q) time put
+
+-- ---- without a header, and without models
+
+pub no-header-in_time : (ms : Models) (held : SinkState) (f : StreamFault) (r : RunFault) → r ≡ ending_of f → (left : List ℕ) (file opened rest' : Option (List ℕ)) → opened ≡ file → (f ≡ stream.Read → left ≡ [])
+    → (f ≡ stream.Read → BothTold opened rest' (λ t q. TakesNoHeader ms.inputs ms.outputs (at_start most_telemetry) ([] ++ t) (left ++ q)))
+    → IfSome file (λ t. IfSome rest' (λ q'. PutsInTime (λ k. begun_of (begun_with ms (without_last k t))) (length q') held (Err r) held))
+no-header-in_time ms held f r is left file opened rest' same used none =
+    subst (λ o. IfSome o (λ t. IfSome rest' (λ q'. PutsInTime (λ k. begun_of (begun_with ms (without_last k t))) (length q') held (Err r) held))) same
+    (subst (λ r. IfSome opened (λ t. IfSome rest' (λ q'. PutsInTime (λ k. begun_of (begun_with ms (without_last k t))) (length q') held (Err r) held))) (sym is) (by f refl))
+  where
+    read : (t q : List ℕ) → left ≡ [] → TakesNoHeader ms.inputs ms.outputs (at_start most_telemetry) ([] ++ t) (left ++ q) → Gains (lines_text (begun_of (begun_with ms (without_last (length q) t)))) held held
+    read t q empty h =
+        nothing-due ms (without_last (length q) t) held
+        (ap (λ n. begun_of (begun_with ms (without_last n t))) (sym (ap (λ l. length (l ++ q)) empty)) ∙ ap (λ (told : Told). begun_of (with_telemetry ms told)) h.none)
+
+    by : (g : StreamFault) → f ≡ g → IfSome opened (λ t. IfSome rest' (λ q'. PutsInTime (λ k. begun_of (begun_with ms (without_last k t))) (length q') held (Err (ending_of g)) held))
+    by (stream.Refused fault) is = some-both opened rest' _ (λ t q. tt)
+    by stream.Read is = both-some opened rest' (λ t q. TakesNoHeader ms.inputs ms.outputs (at_start most_telemetry) ([] ++ t) (left ++ q)) _ (λ t q h _. read t q (used is) h) (none is)
+    by stream.Memory is = some-both opened rest' _ (λ t q. tt)
+
+-- a slot that was not asked is not attached
+pub not-asked : (asked : Option (List ℕ)) → asked ≡ None → is_some asked ≡ true → ⊥
+not-asked asked none some = let clash : false ≡ true = rw none at some in cc
+
+pub with-models-in_time : (ms : Models) (model telemetry' rest' : Option (List ℕ)) (held held' : SinkState) (r : Result Done RunFault) → IfSome model (λ m. models_of m ≡ Ok ms)
+    → IfSome telemetry' (λ t. IfSome rest' (λ q. PutsInTime (λ k. begun_of (begun_with ms (without_last k t))) (length q) held r held'))
+    → OnBytes model telemetry' (λ m t. IfSome rest' (λ q. PutsInTime (lines_begun m t) (length q) held r held'))
+unfolding files_begun
+with-models-in_time ms None telemetry' rest' held held' r read h = tt
+with-models-in_time ms (Some m) telemetry' rest' held held' r read h =
+    if-some telemetry' _ _ (λ t p. subst (λ ms. IfSome rest' (λ q. PutsInTime (λ k. begun_of (begun_under ms (without_last k t))) (length q) held r held')) (sym read) p) h
+
+-- an ending at the model file
+pub judged-in_time : (e : ModelEnding) (r : RunFault) → r ≡ model_ending e → (model telemetry' rest' : Option (List ℕ)) (held : SinkState) → OnBytes model telemetry' (λ m t. IfSome rest' (λ q. PutsInTime (lines_begun m t) (length q) held (Err r) held))
+judged-in_time e r is model telemetry' rest' held = subst (λ r. OnBytes model telemetry' (λ m t. IfSome rest' (λ q. PutsInTime (lines_begun m t) (length q) held (Err r) held))) (sym is) (some-both model telemetry' _ (λ m t. of-some rest' _ (λ q. by e m t q)))
+  where
+    by : (e : ModelEnding) (m t q : List ℕ) → PutsInTime (lines_begun m t) (length q) held (Err (model_ending e)) held
+    by (models.Refused fault) m t q = tt
+    by models.Read m t q = λ one. absurd (let clash : 0 ≡ 1 = one in cc)
+    by models.Memory m t q = tt
