@@ -1,0 +1,12 @@
+pub mod Read
+pub mod Fronts
+pub mod Taken
+pub mod Models
+pub mod Taking
+pub mod Exclusions
+pub mod Departing
+pub mod Comparing
+pub mod Samples
+pub mod Replaying
+pub mod Named
+pub mod Heads

@@ -1,4 +1,5 @@
 -- How a check ends where one of its files gave nothing more.
+use Rattle.std.specs.Prelude.{◌≡◌}
 use Rattle.outside_io.specs.declared.shelf.GetFault.{GetFault}
 use Rattle.outside_io.specs.declared.shelf.GetFault.TheVariants as get
 use Rattle.input_files.specs.declared.model.ModelEnding.{ModelEnding}
@@ -24,3 +25,27 @@ telemetry_fault stream.Memory = Memory
 abbrev pub report_fault : GetFault → CheckFault
 report_fault get.Failed = Read 2
 report_fault get.Memory = Memory
+
+-- an ending of reading the report
+abbrev pub IsReportFault : CheckFault → Type 0
+IsReportFault (Model fault) = ⊥
+IsReportFault (Telemetry fault) = ⊥
+IsReportFault (Read slot) = slot ≡ 2
+IsReportFault (Report line) = ⊥
+IsReportFault Memory = Unit
+
+-- an ending of taking and comparing the lines of a sample
+abbrev pub IsSampleFault : CheckFault → Type 0
+IsSampleFault (Model fault) = ⊥
+IsSampleFault (Telemetry fault) = ⊥
+IsSampleFault (Read slot) = slot ≡ 2
+IsSampleFault (Report line) = Unit
+IsSampleFault Memory = Unit
+
+-- an ending of making lines and comparing them
+abbrev pub IsCompareFault : CheckFault → Type 0
+IsCompareFault (Model fault) = ⊥
+IsCompareFault (Telemetry fault) = ⊥
+IsCompareFault (Read slot) = ⊥
+IsCompareFault (Report line) = Unit
+IsCompareFault Memory = Unit

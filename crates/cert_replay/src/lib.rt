@@ -2,7 +2,13 @@
 #![tactic(auto)]
 
 mod checking;
+mod compare;
+mod counts;
 mod fault;
+mod made;
+mod offers;
+mod replay;
+mod window;
 
 pub use checking::check;
 pub use fault::{Accepted, CheckFault};

@@ -57,7 +57,7 @@ module _ (samples : List Sample) (k : ℕ) where
       length-numbered (λ h. hull i h.0 h.1.0 h.1.1) 0 hs ∙ length-tabulate p.states (hull_of (zonotope_observer.corrected p samples k)) in
       length-append (hull_lines i hs) (status i (not (answer_at p None).is_widened) ∷ []) ∙ ap (λ n. n + 1) many
 
-  length-model : (i : ℕ) (p : Plant) (c : Option Certificate) → length (model_lines (record { index = i; answer = answer_at p c })) ≡ count_of p c
+  pub length-model : (i : ℕ) (p : Plant) (c : Option Certificate) → length (model_lines (record { index = i; answer = answer_at p c })) ≡ count_of p c
   length-model i p c =
       length-append (pred_lines i (answer_at p c).predicted) (outcome_lines i c (answer_at p c).hulls (answer_at p c).is_widened)
       ∙ ap (λ n. n + length (outcome_lines i c (answer_at p c).hulls (answer_at p c).is_widened)) (length-preds i p c)

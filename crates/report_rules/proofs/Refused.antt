@@ -37,7 +37,7 @@ feed-fronts (x ∷ xs) (y ∷ ys) rest rest' h g e =
     others true b h = absurd cc
     others false b h = h
 
-short-feeds : (t : List ℕ) → is_short_line t ≡ true → list_any is_feed t ≡ false
+pub short-feeds : (t : List ℕ) → is_short_line t ≡ true → list_any is_feed t ≡ false
 short-feeds t h = by (list_any is_feed t) (both (nat_le (length t) 256) (not (list_any is_feed t)) h).1
   where
     by : (b : Bool) → not b ≡ true → b ≡ false
@@ -64,17 +64,17 @@ feeds-front t us rest = simp append_assoc
 abbrev pub StartsLine : List ℕ → Type 0
 StartsLine bytes = (l : Line) × (is_in_range l ≡ true) × (r : List ℕ) × (bytes ≡ put_text l ++ r)
 
-no-start : (bytes : List ℕ) → HasNoLine bytes → ¬ StartsLine bytes
+pub no-start : (bytes : List ℕ) → HasNoLine bytes → ¬ StartsLine bytes
 no-start bytes none starts = none (line_text starts.0) starts.2 (range-short starts.0 starts.1) (starts.3 ∙ append_assoc (line_text starts.0) (10 ∷ []) starts.2)
 
 module _ (rest v : List ℕ) where
   -- the lines that were taken go past those of the text, or end before them
-  abbrev Aligned : List Line → List (List ℕ) → Type 0
+  abbrev pub Aligned : List Line → List (List ℕ) → Type 0
   Aligned ls ts =
       ((list_all is_short_line (drop (length ls) ts) ≡ true) × (with_feeds (drop (length ls) ts) ++ rest ≡ v) × (length ls ≤ length ts))
       ⊎ ((length ts < length ls) × StartsLine rest)
 
-  aligned : (ls : List Line) (ts : List (List ℕ)) → list_all is_in_range ls ≡ true → list_all is_short_line ts ≡ true
+  pub aligned : (ls : List Line) (ts : List (List ℕ)) → list_all is_in_range ls ≡ true → list_all is_short_line ts ≡ true
       → with_feeds ts ++ rest ≡ lines_text ls ++ v → Aligned ls ts
   aligned [] ts h short e = inl (short, e, omega arith)
   aligned (l ∷ ls) [] h short e =

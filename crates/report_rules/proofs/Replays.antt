@@ -76,7 +76,7 @@ module _ (names : List (List ℕ)) (ps : List Plant) (taken : List Sample) (c : 
         ap (lives_before longer m) one-more ∙ ap (λ ls. live_after ls (longer k)) (lives-longer k (omega arith)) ∙ ap (live_after lives) (chosen-here k os c)
 
     -- the lines of the sample stand behind the others
-    lines-longer : samples_lines zonotope_observer ps all longer (length all)
+    pub lines-longer : samples_lines zonotope_observer ps all longer (length all)
         ≡ samples_lines zonotope_observer ps taken c k ++ sample_lines (sample_answer zonotope_observer ps lives os all k)
     unfolding samples_lines
     lines-longer =
