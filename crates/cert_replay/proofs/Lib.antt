@@ -10,3 +10,4 @@ pub mod Samples
 pub mod Replaying
 pub mod Named
 pub mod Heads
+pub mod Turned

@@ -5,7 +5,7 @@ use Rattle.outside_io.specs.Shelf.{ShelfState}
 use Rattle.model_file.specs.Bank.{Models}
 use Rattle.telem_csv.specs.Rows.{Rows}
 use Rattle.report_rules.specs.Replay.{Satisfies, DepartsAt}
-use Rattle.report_put.specs.Watched.{watch_of}
+use Rattle.monitor_run.specs.Reports.{watch_of}
 use Rattle.input_files.specs.Files.{Files, bad_model, bad_header, monitored, model_refusal, telemetry_refusal}
 use Rattle.input_files.specs.Told.{OnFile, OnFiles, ReadFailed}
 use Rattle.input_files.specs.Whole.{IsAskedAtMost}

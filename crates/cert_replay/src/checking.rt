@@ -10,7 +10,7 @@ ghost use Rattle.telem_csv.specs.Fed.{is_refusal};
 ghost use Rattle.model_bank.specs.Bank.{plants_in, names_in};
 ghost use Rattle.report_text.specs.Line.{end, put_text};
 ghost use Rattle.input_files.specs.Files.{files_with, most_telemetry};
-ghost use Rattle.input_files.specs.Stream.{OnRows, ReadsOn};
+ghost use Rattle.input_files.specs.Stream.{OnRows, ReadsOn, IsEndedAt};
 ghost use Rattle.input_files.specs.Told.{OnFile};
 ghost use Rattle.cert_replay.specs.Outcome.{OnReport, SaysOfModel, SaysOfReport, IfRead, ReadsFailed, AllRead, AsksInOrder};
 ghost use Rattle.cert_replay.specs.Faults.{IsSampleFault};
@@ -87,6 +87,7 @@ fn check_report<F: Shelf>(
     requires attached { ((F.state shelf.old).slot 1).attached ≡ true }
     requires report { ((F.state shelf.old).slot 2).attached ≡ true }
     requires going { is_refusal stream.old.cutter.last ≡ false }
+    requires ended { IsEndedAt 1 stream.old (F.state shelf.old) }
     requires columns { AreFor models.inputs models.outputs head.now }
     requires short { (current stream.old.cutter).room ≤ most_telemetry }
     ensures says { AreNamed (names_in models) → (bytes : List ℕ) → ((F.state shelf.old).slot 2).rest ≡ Some bytes
@@ -152,6 +153,7 @@ fn check_rows<F: Shelf>(
     requires attached { ((F.state shelf.old).slot 1).attached ≡ true }
     requires report { ((F.state shelf.old).slot 2).attached ≡ true }
     requires going { is_refusal stream.old.cutter.last ≡ false }
+    requires ended { IsEndedAt 1 stream.old (F.state shelf.old) }
     requires inputs { length head.now.inputs ≡ replay.old.bank.inputs }
     requires outputs { length head.now.outputs ≡ replay.old.bank.outputs }
     requires begins { replay.old.bank.count ≡ 0 }

@@ -1,5 +1,5 @@
 //! Lines that are made, beside those of the report.
-ghost use Rattle.std.specs.Prelude.{◌≡◌, ◌≢◌, ℕ, ◌+◌, ◌<◌, ◌≤◌, ◌^◌, List, [], ◌∷◌, ◌++◌, length, take, drop, map, flat_map, get_or, IfErr, OnOk};
+ghost use Rattle.std.specs.Prelude.{◌≡◌, ◌≢◌, ℕ, ◌+◌, ◌<◌, ◌≤◌, ◌^◌, List, [], ◌∷◌, ◌++◌, length, take, drop, map, flat_map, get_or, true, false, IfErr, OnOk};
 ghost use Rattle.std.specs.List.{count_by};
 ghost use Rattle.observer_step.specs.Seen.{is_printable_interval};
 ghost use Rattle.model_bank.specs.Bank.{names_in};
@@ -9,7 +9,7 @@ ghost use Rattle.report_text.specs.Line.{lines_text, sample, end};
 ghost use Rattle.report_rules.specs.Lines.{head_lines, sample_lines, model_lines, pred_lines};
 ghost use Rattle.cert_replay.specs.Faults.{IsCompareFault};
 ghost use Rattle.cert_replay.specs.Lines.{room};
-ghost use Rattle.cert_replay.specs.Window.{left_in, TakesText, DepartsFrom, DepartsBehind};
+ghost use Rattle.cert_replay.specs.Window.{left_in, TakesText, PartsBehind, DepartsFrom, DepartsBehind};
 
 use crate::fault::CheckFault;
 use crate::window::Window;
@@ -96,17 +96,48 @@ impl Window {
         ensures few { OnOk result (self.new.lines ≤ self.old.lines + room) }
         ensures fault { IfErr result IsCompareFault }
     {
-        let text: &[u8] = &self.made.text;
-        if self.left().starts_with(text) {
-            self.lines += feeds_in(text);
-            self.at += text.len();
-            return Ok(());
+        let found = self.agreement();
+        if !found.stands {
+            return Err(CheckFault::Report {
+                line: self.lines + found.feeds + 1,
+            });
         }
-        let same = agreeing(text, self.left());
-        Err(CheckFault::Report {
-            line: self.lines + feeds_in(&text[..same]) + 1,
-        })
+        self.lines += found.feeds;
+        self.at += found.same;
+        Ok(())
     }
+
+    /// How far what is left agrees with the text that was made.
+    fn agreement(&self) -> Agreement
+        ensures text { result.same ≤ length self.now.made.text.items }
+        ensures left { result.same ≤ length (left_in self.now) }
+        ensures feeds { result.feeds ≡ count_by is_feed (take result.same self.now.made.text.items) }
+        ensures stands { result.stands ≡ true → (result.same ≡ length self.now.made.text.items)
+            × (left_in self.now ≡ self.now.made.text.items ++ drop result.same (left_in self.now)) }
+        ensures parts { result.stands ≡ false
+            → PartsBehind self.now.made.text.items (left_in self.now) (take result.same self.now.made.text.items) }
+    {
+        let text: &[u8] = &self.made.text;
+        let left = self.left();
+        let stands = left.starts_with(text);
+        let same = if stands { text.len() } else { agreeing(text, left) };
+        Agreement {
+            same,
+            feeds: feeds_in(&text[..same]),
+            stands,
+        }
+    }
+}
+
+/// How a text agrees with bytes.
+#[derive(Clone, Copy)]
+struct Agreement {
+    /// How many bytes agree.
+    same: usize,
+    /// How many line feeds these have.
+    feeds: u64,
+    /// Whether they are all of the text.
+    stands: bool,
 }
 
 /// How many bytes of a text the bytes begin with.

@@ -1,8 +1,7 @@
-use Rattle.cert_replay.proofs.Comparing.{stands-behind, parts-behind}
 use Rattle.cert_replay.proofs.window.Window.compare.Goals as goal
 
-pub returns-then-starts_with-clause-same : goal.returns-then-starts_with-clause-same
-returns-then-starts_with-clause-same c = ?
+pub returns-clause-same : goal.returns-clause-same
+returns-clause-same c = ?
 
-pub returns-clause-departs : goal.returns-clause-departs
-returns-clause-departs c = ?
+pub returns-then-not-stands-clause-departs : goal.returns-then-not-stands-clause-departs
+returns-then-not-stands-clause-departs c = ?
