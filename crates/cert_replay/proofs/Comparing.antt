@@ -1,5 +1,5 @@
 -- Text that is made, beside what a window has left.
-use Rattle.std.proofs.Common.{◌≡◌, ◌≢◌, ℕ, ◌+◌, ◌-◌, ◌<◌, ◌≤◌, Bool, true, false, List, [], ◌∷◌, ◌++◌, length, take, drop, get_or, Option, Some, None, Result, Ok, Err, refl, sym, ap, ◌∙◌, arith, subst, append-nil, drop-cons, suc}
+use Rattle.std.proofs.Common.{◌≡◌, ◌≢◌, ℕ, ◌+◌, ◌-◌, ◌<◌, ◌≤◌, Bool, true, false, not, List, [], ◌∷◌, ◌++◌, length, take, drop, get_or, Option, Some, None, Result, Ok, Err, IfErr, refl, sym, ap, ◌∙◌, arith, subst, append-nil, drop-cons, suc}
 use Rattle.std.specs.List.{count_by, starts_with}
 use Rattle.std.specs.Result.{is_err}
 use Rattle.std.proofs.Math.Dec.{eqb}
@@ -75,3 +75,11 @@ module _ (text bytes : List ℕ) where
 
       less : n < length text
       less = omega (arith, within, not-all)
+
+pub not-false : (b : Bool) → not b ≡ false → b ≡ true
+not-false true h = refl
+not-false false h = absurd cc
+
+pub if-err : {A E : Type 0} (r : Result A E) (P Q : E → Type 0) → ((e : E) → P e → Q e) → IfErr r P → IfErr r Q
+if-err (Ok x) P Q f h = tt
+if-err (Err e) P Q f h = f e h

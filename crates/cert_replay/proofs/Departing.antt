@@ -31,11 +31,11 @@ feeds-append xs ys = sum_by-append (λ x. cond (is_feed x) 1 0) xs ys
 
 feeds-none : (xs : List ℕ) → list_any is_feed xs ≡ false → count_by is_feed xs ≡ 0
 feeds-none [] h = refl
-feeds-none (c ∷ cs) h = by (is_feed c) refl h
+feeds-none (c ∷ cs) h = by (is_feed c) refl h (feeds-none cs)
   where
-    by : (b : Bool) → is_feed c ≡ b → (b || list_any is_feed cs) ≡ false → count_by is_feed (c ∷ cs) ≡ 0
-    by true e h = absurd cc
-    by false e h = rw e (feeds-none cs h)
+    by : (b : Bool) → is_feed c ≡ b → (b || list_any is_feed cs) ≡ false → (list_any is_feed cs ≡ false → count_by is_feed cs ≡ 0) → count_by is_feed (c ∷ cs) ≡ 0
+    by true e h more = absurd cc
+    by false e h more = rw e (more h)
 
 feeds-line : (t : List ℕ) → list_any is_feed t ≡ false → count_by is_feed (t ++ 10 ∷ []) ≡ 1
 feeds-line t h = feeds-append t (10 ∷ []) ∙ ap (λ n. n + 1) (feeds-none t h)
@@ -72,9 +72,10 @@ cut-first : (xs ys r r' : List ℕ) → xs ++ r ≡ ys ++ r' → length ys ≤ l
 cut-first xs [] r r' e h = (xs, refl, sym e)
 cut-first [] (y ∷ ys) r r' e h = absurd (omega (arith, h))
 cut-first (x ∷ xs) (y ∷ ys) r r' e h =
-    let more = cut-first xs ys r r' cc (omega (arith, h)) in
+    let tails : xs ++ r ≡ ys ++ r' = cc in
+    let more = cut-first xs ys r r' tails (omega (arith, h)) in
     let head : x ≡ y = cc in
-    (more.0, cc (head, more.1), more.2)
+    (more.0, ap (λ z. z ∷ xs) head ∙ ap (λ zs. y ∷ zs) more.1, more.2)
 
 -- a front of a line with its feed, of which more is to come, has no feed
 front-feeds : (t part tail : List ℕ) (next : ℕ) → list_any is_feed t ≡ false → t ++ 10 ∷ [] ≡ part ++ next ∷ tail → count_by is_feed part ≡ 0
@@ -86,7 +87,8 @@ front-feeds t part tail next h e =
 
 pub part-of : (ls : List Line) (same more : List ℕ) (next : ℕ) → list_all is_in_range ls ≡ true → lines_text ls ≡ same ++ next ∷ more → PartOf ls same next
 part-of [] same more next h e = absurd (omega (arith, ap length e, length-append same (next ∷ more)))
-part-of (l ∷ ls) same more next h e = by (below-or (length same) (length (put_text l)))
+part-of (l ∷ ls) same more next h e =
+    by (below-or (length same) (length (put_text l))) (λ s e. part-of ls s more next (both (is_in_range l) (list_all is_in_range ls) h).1 e)
   where
     parts : (is_in_range l ≡ true) × (list_all is_in_range ls ≡ true)
     parts = both (is_in_range l) (list_all is_in_range ls) h
@@ -94,8 +96,8 @@ part-of (l ∷ ls) same more next h e = by (below-or (length same) (length (put_
     grouped : (a b : List ℕ) → a ++ next ∷ b ≡ (a ++ next ∷ []) ++ b
     grouped a b = sym (append_assoc a (next ∷ []) b)
 
-    by : (length same < length (put_text l)) ⊎ (length (put_text l) ≤ length same) → PartOf (l ∷ ls) same next
-    by (inl shorter) =
+    by : (length same < length (put_text l)) ⊎ (length (put_text l) ≤ length same) → ((s : List ℕ) → lines_text ls ≡ s ++ next ∷ more → PartOf ls s next) → PartOf (l ∷ ls) same next
+    by (inl shorter) later =
         let cut = cut-first (put_text l) (same ++ next ∷ []) (lines_text ls) more (e ∙ grouped same more) (omega (arith, shorter, length-append same (next ∷ []))) in
         let line : put_text l ≡ same ++ next ∷ cut.0 = cut.1 ∙ append_assoc same (next ∷ []) cut.0 in
         record {
@@ -107,9 +109,9 @@ part-of (l ∷ ls) same more next h e = by (below-or (length same) (length (put_
           line_is = λ d. line;
           feeds = front-feeds (line_text l) same cut.0 next (lines-have_no_feed l parts.0) line;
         }
-    by (inr longer) =
+    by (inr longer) later =
         let cut = cut-first same (put_text l) (next ∷ more) (lines_text ls) (sym e) longer in
-        let rest = part-of ls cut.0 more next parts.1 cut.2 in
+        let rest = later cut.0 cut.2 in
         record {
           j = suc rest.j;
           within = omega (arith, rest.within);

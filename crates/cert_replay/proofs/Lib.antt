@@ -11,3 +11,4 @@ pub mod Replaying
 pub mod Named
 pub mod Heads
 pub mod Turned
+pub mod Said

@@ -1,6 +1,7 @@
 -- One sample more of a report that is replayed.
 use Rattle.std.proofs.Common.{◌≡◌, inl, inr, ℕ, zero, suc, ◌+◌, ◌^◌, ◌<◌, ◌≤◌, Bool, true, List, [], ◌∷◌, ◌++◌, length, map, flat_map, take, get_or, Option, Some, None, refl, sym, ap, ◌∙◌, arith, subst, append-nil, append_assoc, length-append}
 use Rattle.std.specs.List.{All, list_all, count_by}
+use Rattle.std.proofs.lemmas.List.{length-map}
 use Rattle.outside_io.specs.Shelf.{ShelfState}
 use Rattle.farkas_check.specs.Certificate.{Certificate}
 use Rattle.plant_model.specs.Plant.{Plant, Sample}
@@ -37,6 +38,13 @@ printed-all : (rs : List ModelRec) → All CanBePrinted (map model_seen rs)
 printed-all [] k d l = absurd (omega (arith, l))
 printed-all (r ∷ rs) zero d l = (r.printable_preds, r.printable_hulls)
 printed-all (r ∷ rs) (suc k) d l = printed-all rs k d (omega (arith, l))
+
+-- as many models as have counts
+pub possible-many : (names : List (List ℕ)) (ps : List Plant) (taken : List Sample) (bytes : List ℕ) (r : Replay) (s : ShelfState) → AreModels names ps r.counts → (checked : Checked names ps taken bytes r s)
+    → length r.last.possible.items ≡ length r.counts.states.items
+possible-many names ps taken bytes r s models checked =
+    let lives = length-lives_before checked.choice (length ps) (length taken) (λ j l. (length-allowed taken j ps (lives_before checked.choice (length ps) j) (checked.choice j) (checked.replayed.allowed j l)).1) in
+    ap length checked.possible_are ∙ lives ∙ sym (length-map ps (λ (p : Plant). p.states)) ∙ ap length models.counts_are.states_are
 
 module _ (names : List (List ℕ)) (ps : List Plant) (taken : List Sample) (bytes : List ℕ) (r0 : Replay) (shelf0 shelf1 : ShelfState) (w1 : Window) (s : Sample) (os : List (Option Certificate))
     (models : AreModels names ps r0.counts) (checked : Checked names ps taken bytes r0 shelf0) (ahead : ReadsAhead r0.window shelf0 w1 shelf1)
@@ -154,6 +162,7 @@ module _ (names : List (List ℕ)) (ps : List Plant) (taken : List Sample) (byte
 
     -- the report departs up to the place of the offer, or there
     pub refused-other : (line : ℕ) → DepartsBehind (lines_text front) w1 line → (more : List Sample) (is_whole : Bool) → DepartsAt (watch names ps (all ++ more) is_whole) line bytes
+    unfolding sample-taken taken-enough
     refused-other line (DepartsBehind.within d) more is_whole =
         let first = first-other front front-ranges (left_in w1) left.rest checked.unread d.same left.is (taken-enough (length front) (omega (arith, few-lines))) d.parts in
         let begin = refused_lines-begin names ps taken checked.choice bytes checked.unread checked.replayed s os refusal t in

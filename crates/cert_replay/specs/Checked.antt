@@ -34,12 +34,10 @@ pub record Checked (names : List (List ℕ)) (ps : List Plant) (taken : List Sam
   pub possible_are : r.last.possible.items ≡ lives_before choice (length ps) (length taken)
   pub lines : r.window.lines ≡ length (lines_so_far names ps taken choice)
 
--- as many models everywhere; the samples and the lines can be counted on
+-- as many models everywhere, and not more lines than their room
 pub record IsReady (r : Replay) : Type 0 where
   pub as_many : length r.counts.states.items ≡ length r.bank.members
-  pub possible : length r.last.possible.items ≡ length r.bank.members
   pub lines : r.window.lines ≤ room * (r.bank.count + 2)
-  pub counted : r.bank.count < 2 ^ 32
 
 -- the report departs in the lines of the sample that is added, whatever comes after it
 abbrev pub DepartsInSample : (names : List (List ℕ)) (ps : List Plant) (taken : List Sample) (s : Sample) (bytes : List ℕ) → CheckFault → Type 0

@@ -119,12 +119,18 @@ impl Window {
     {
         let text: &[u8] = &self.made.text;
         let left = self.left();
-        let stands = left.starts_with(text);
-        let same = if stands { text.len() } else { agreeing(text, left) };
+        if left.starts_with(text) {
+            return Agreement {
+                same: text.len(),
+                feeds: feeds_in(text),
+                stands: true,
+            };
+        }
+        let same = agreeing(text, left);
         Agreement {
             same,
             feeds: feeds_in(&text[..same]),
-            stands,
+            stands: false,
         }
     }
 }

@@ -1,7 +1,7 @@
-use Rattle.std.proofs.Common.{◌≡◌, ◌<◌, ◌∷◌, [], ◌++◌, length, sym, ◌∙◌, ap, arith, subst, option_map, OnOk, get_or, false}
+use Rattle.std.proofs.Common.{◌≡◌, ◌<◌, ◌∷◌, [], ◌++◌, length, sym, ◌∙◌, ap, arith, subst, option_map, OnOk, get_or, false, Option, ℕ}
 use Rattle.std.proofs.lemmas.List.{length-map, map-append}
 use Rattle.outside_io.proofs.Fronts.{on-ok}
-use Rattle.farkas_check.specs.Certificate.{certificate_of}
+use Rattle.farkas_check.specs.Certificate.{Certificate, certificate_of}
 use Rattle.model_bank.specs.Seen.{offers_seen}
 use Rattle.cert_replay.specs.Offers.{AddsOffers, TakesIfLive, offer_seen}
 use Rattle.cert_replay.proofs.Taking.{adds-closing, adds-model, ends-near, on-both}
@@ -32,9 +32,9 @@ returns-clause-taken g t c =
     let many : length before ≡ length items = length-map items (option_map certificate_of) in
     let place-is : i ≡ length before = c.len-i.ensures.value ∙ sym many in
     let less : length before < length lives = omega (arith, many, c.len-i.ensures.value, c.if-i-lives.false, c.requires.fewer) in
-    let sizes : c.deref.result.now ≡ counts.states.items = c.deref.ensures in
+    let sizes : c.deref.result.now ≡ counts.states.items = c.deref.ensures.0 in
     let states-is : get_or c.deref.result.now i 0 ≡ get_or counts.states.items (length before) 0 = ap (λ xs. get_or xs i 0) sizes ∙ ap (λ n. get_or counts.states.items n 0) place-is in
-    let offer = (option_map certificate_of c.in_ok-offer.offer, c.in_ok-offer.behind) in
+    let offer : Option Certificate × Option ℕ = (option_map certificate_of c.in_ok-offer.offer, c.in_ok-offer.behind) in
     let taken : TakesIfLive (get_or lives i false) (length before) counts.outputs (get_or c.deref.result.now i 0) c.args.place c.args.window.now (g.F.Shelf.state c.args.shelf.now) c.take_if_live.new.window offer =
     subst (λ n. TakesIfLive (get_or lives i false) n counts.outputs (get_or c.deref.result.now i 0) c.args.place c.args.window.now (g.F.Shelf.state c.args.shelf.now) c.take_if_live.new.window offer) place-is c.in_ok-offer.ensures.taken in
     let pushed : offers_seen c.push.new.self.items ≡ before ++ offer.0 ∷ [] = ap offers_seen c.push.ensures.items ∙ map-append (option_map certificate_of) items (c.in_ok-offer.offer ∷ []) in
