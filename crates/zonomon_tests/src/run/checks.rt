@@ -71,7 +71,11 @@ const CHANGES: [(&str, &str, u64); 20] = [
     ("x 1 out 0\n", "", 18),
     ("x 1 out 0\n", "x 1 out 1\n", 18),
     ("x 1 out 0\n", "x 1 rows 1\n", 18),
-    ("x 1 out 0\n", "h 1 0 -0.301980200 -0.193069304\ns 1 fits\n", 18),
+    (
+        "x 1 out 0\n",
+        "h 1 0 -0.301980200 -0.193069304\ns 1 fits\n",
+        18,
+    ),
     ("verdict isolated 0\n", "verdict fault\n", 20),
     ("end 2\n", "", 21),
     ("end 2\n", "end 2", 21),
@@ -108,10 +112,7 @@ fn line_past_the_longest_is_refused(rt: HostRuntime) -> Result<(), Fail> {
 #[test]
 fn report_of_one_row_ends_with_its_end(rt: HostRuntime) -> Result<(), Fail> {
     let alloc = rt.alloc();
-    let cases = [
-        ("end 1\n", "end 1", 9),
-        ("end 1\n", "end 1\nend 1\n", 10),
-    ];
+    let cases = [("end 1\n", "end 1", 9), ("end 1\n", "end 1\nend 1\n", 10)];
     for (old, new, number) in cases {
         let report = HALF.replace(alloc, old, new)?;
         let ran = check_over(alloc, P, "y\n0.5\n", &report)?;
@@ -122,7 +123,9 @@ fn report_of_one_row_ends_with_its_end(rt: HostRuntime) -> Result<(), Fail> {
 }
 
 #[test]
-fn refused_telemetry_is_told_where_the_report_does_not_depart_before(rt: HostRuntime) -> Result<(), Fail> {
+fn refused_telemetry_is_told_where_the_report_does_not_depart_before(
+    rt: HostRuntime,
+) -> Result<(), Fail> {
     let alloc = rt.alloc();
     for end in ["end 1\n", "", "end 7", "sample 1\n"] {
         let report = HALF.replace(alloc, "end 1\n", end)?;

@@ -49,7 +49,10 @@ fn words_of_no_form_are_refused(rt: HostRuntime) -> Result<(), Fail> {
 
 #[test]
 fn form_to_come_is_not_built(rt: HostRuntime) -> Result<(), Fail> {
-    assert_eq!(rt; run_by(rt.alloc(), &["demo", "7", "1"])?.said(), (8, "", "not built\n"));
+    assert_eq!(rt;
+        run_by(rt.alloc(), &["demo", "7", "1"])?.said(),
+        (8, "", "not built\n")
+    );
     Ok(())
 }
 
