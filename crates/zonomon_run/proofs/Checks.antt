@@ -15,7 +15,6 @@ use Rattle.report_rules.proofs.Hulls.{hulls-sound, exclusions-sound, zonotope-so
 use Rattle.report_rules.proofs.Misses.{misses-told}
 use Rattle.report_rules.specs.Report.{IsReport, IsReportText}
 use Rattle.report_rules.specs.Replay.{Satisfies, SatisfiesBy}
-use Rattle.report_put.specs.Watched.{watch_of}
 use Rattle.input_files.specs.Files.{Files, bad_model, bad_header, monitored, files_of, model_refusal, telemetry_refusal}
 use Rattle.input_files.specs.Told.{OnBytes, OnFile}
 use Rattle.cert_replay.specs.declared.fault.Accepted.{Accepted}
@@ -28,7 +27,7 @@ use Rattle.zonomon_run.specs.declared.ending.Ending.TheVariants.{ReadModel, Read
 use Rattle.zonomon_run.specs.Endings.{check_ending, unread_ending}
 use Rattle.zonomon_run.specs.Runs.{Outside, OnCheck, IsAccepted, PutsText, report_text}
 use Rattle.zonomon_run.specs.Checks.{Agrees, DepartsAtLine, Accepts, IsRefusedAt, IsCheckStatus, NoSlotRose, Unread, Checks, AreLinesWith, KeepsOwn, CheckedHulls, CheckedExclusions, CheckedMisses}
-use Rattle.monitor_run.specs.Reports.{report_of_rows}
+use Rattle.monitor_run.specs.Reports.{report_of_rows, watch_of}
 use Rattle.zonomon_run.proofs.Runs.{refused-model, accepted-not-refused, not-refused, if-some, put-accepted}
 
 -- a claim on what the words name

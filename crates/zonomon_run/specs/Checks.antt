@@ -12,7 +12,7 @@ use Rattle.report_text.specs.Line.{Line, lines_text}
 use Rattle.report_rules.specs.Report.{IsReport}
 use Rattle.report_rules.specs.Replay.{Satisfies, DepartsAt}
 use Rattle.report_rules.specs.Claims.{HullsHold, ExclusionsHold, MissesTold, plant_at}
-use Rattle.report_put.specs.Watched.{watch_of}
+use Rattle.monitor_run.specs.Reports.{watch_of}
 use Rattle.input_files.specs.Files.{Files, bad_model, bad_header, monitored, model_refusal, telemetry_refusal}
 use Rattle.input_files.specs.Told.{OnFile, ReadFailed}
 use Rattle.input_files.specs.Whole.{IsAskedAtMost}
