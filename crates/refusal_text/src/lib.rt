@@ -3,7 +3,9 @@
 
 mod model;
 mod pieces;
+mod report;
 mod telemetry;
 
 pub use model::model_refusal;
+pub use report::report_refusal;
 pub use telemetry::telemetry_refusal;

@@ -1,3 +1,4 @@
 pub mod ByCount
 pub mod Told
 pub mod Runs
+pub mod Checks

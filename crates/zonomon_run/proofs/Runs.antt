@@ -1,5 +1,5 @@
 -- What a run answers, from how it ended.
-use Rattle.std.proofs.Common.{◌≡◌, ◌≢◌, ◌⊎◌, ◌==◌, if◌then◌else◌, inl, inr, List, ℕ, Bool, true, false, Option, Some, None, IfSome, IsSome, Result, Ok, Err, refl, sym, ap, subst, length, is_none, arith}
+use Rattle.std.proofs.Common.{◌≡◌, ◌≢◌, ◌⊎◌, ◌==◌, if◌then◌else◌, inl, inr, List, ℕ, Bool, true, false, Option, Some, None, IfSome, IsSome, Result, Ok, Err, refl, sym, ap, subst, length, arith}
 use Rattle.outside_io.specs.Causes.{Rose}
 use Rattle.outside_io.specs.Shelf.{ShelfState}
 use Rattle.outside_io.specs.Sink.{SinkState, AppendsFront, Gains, GainsFront}
@@ -7,7 +7,6 @@ use Rattle.outside_io.proofs.Fronts.{no-front, all-front}
 use Rattle.model_file.specs.Bank.{Models}
 use Rattle.model_file.specs.ModelFile.{models_of}
 use Rattle.model_file.specs.declared.fault.ModelFault.{ModelFault}
-use Rattle.model_bank.specs.Bank.{plants_in, names_in}
 use Rattle.observer_step.specs.Answers.{zonotope_observer, any_justified}
 use Rattle.telem_csv.specs.declared.fault.TelemFault.{TelemFault}
 use Rattle.report_text.specs.Line.{Line, lines_text}
@@ -53,7 +52,7 @@ on-files words shelf P f model telemetry e = on-bytes (shelf.file model) (shelf.
 
 -- ---- files that are refused
 
-refused-model : (m t : List ℕ) (fault : ModelFault) → model_refusal m ≡ Some fault → files_of m t ≡ bad_model fault
+pub refused-model : (m t : List ℕ) (fault : ModelFault) → model_refusal m ≡ Some fault → files_of m t ≡ bad_model fault
 unfolding files_of model_refusal
 refused-model m t fault e = of (models_of m) e
   where
@@ -61,7 +60,7 @@ refused-model m t fault e = of (models_of m) e
     of (Ok ms) e = absurd cc
     of (Err x) e = let same : x ≡ fault = cc in ap bad_model same
 
-accepted-not-refused : (f : Files) (fault : TelemFault) → telemetry_refusal f ≡ Some fault → IsAccepted f → ⊥
+pub accepted-not-refused : (f : Files) (fault : TelemFault) → telemetry_refusal f ≡ Some fault → IsAccepted f → ⊥
 accepted-not-refused (bad_model x) fault e h = h
 accepted-not-refused (bad_header x) fault e h = h
 accepted-not-refused (monitored ms rows) fault e h = cc
@@ -184,11 +183,11 @@ of-five (run.Read slot) e = let four = read-status (slot == 0) in absurd (omega 
 of-five run.Write e = refl
 of-five run.Memory e = absurd (omega arith)
 
-not-refused : (o : Option ModelFault) → o ≡ None → IsSome o → ⊥
+pub not-refused : (o : Option ModelFault) → o ≡ None → IsSome o → ⊥
 not-refused None e s = cc
 not-refused (Some x) e s = cc
 
-if-some : (o : Option (List ℕ)) (P Q : List ℕ → Type 0) → ((m : List ℕ) → P m → Q m) → IfSome o P → IfSome o Q
+pub if-some : (o : Option (List ℕ)) (P Q : List ℕ → Type 0) → ((m : List ℕ) → P m → Q m) → IfSome o P → IfSome o Q
 if-some None P Q f h = tt
 if-some (Some m) P Q f h = f m h
 
@@ -286,7 +285,7 @@ module _ (model telemetry : List ℕ) (before after : Outside) where
 -- ---- what the lines claim
 
 -- what a run puts is accepted
-put-accepted : (ms : Models) (rows : Rows) → IsReport any_justified zonotope_observer (watch_of ms rows) (report_of_rows ms rows)
+pub put-accepted : (ms : Models) (rows : Rows) → IsReport any_justified zonotope_observer (watch_of ms rows) (report_of_rows ms rows)
 put-accepted ms rows = run-accepted zonotope_observer (watch_of ms rows) (report_of_rows ms rows) zonotope-refutes (due-chosen (watch_of ms rows))
 
 pub true-hulls : (f : Files) → TrueHulls f

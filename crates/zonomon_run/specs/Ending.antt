@@ -6,9 +6,10 @@ use Rattle.model_file.specs.declared.fault.ModelFault.{ModelFault}
 use Rattle.telem_csv.specs.declared.fault.TelemFault.{TelemFault}
 use Rattle.refusal_text.specs.Model.{model_refusal}
 use Rattle.refusal_text.specs.Telemetry.{telemetry_refusal}
+use Rattle.refusal_text.specs.Report.{report_refusal}
 use Rattle.input_files.specs.Files.{most_telemetry}
 use Rattle.zonomon_run.specs.declared.ending.Ending.{Ending}
-use Rattle.zonomon_run.specs.declared.ending.Ending.TheVariants.{Usage, Model, Telemetry, ReadModel, ReadTelemetry, Write, Memory, NotBuilt}
+use Rattle.zonomon_run.specs.declared.ending.Ending.TheVariants.{Usage, Model, Telemetry, ReadModel, ReadTelemetry, ReadReport, Write, Memory, Report, NotBuilt}
 
 abbrev pub status_of : Ending → ℕ
 status_of Usage = 1
@@ -16,8 +17,10 @@ status_of (Model fault) = 2
 status_of (Telemetry fault) = 3
 status_of ReadModel = 4
 status_of ReadTelemetry = 4
+status_of ReadReport = 4
 status_of Write = 5
 status_of Memory = 6
+status_of (Report line) = 7
 status_of NotBuilt = 8
 
 -- a text with its line feed
@@ -36,14 +39,24 @@ model_refusal_text fault = ended (model_refusal fault)
 abbrev pub telemetry_refusal_text : TelemFault → List ℕ
 telemetry_refusal_text fault = ended (telemetry_refusal most_telemetry fault)
 
+-- at which line a report is refused, as a line
+abbrev pub report_refusal_text : ℕ → List ℕ
+report_refusal_text line = ended (report_refusal line)
+
+-- that a report is accepted, as a line
+abbrev pub accepted_text : List ℕ
+accepted_text = ended (codes "accepted")
+
 abbrev pub text_of : Ending → List ℕ
 text_of Usage = usage_lines
 text_of (Model fault) = model_refusal_text fault
 text_of (Telemetry fault) = telemetry_refusal_text fault
 text_of ReadModel = ended (codes "read fault: model")
 text_of ReadTelemetry = ended (codes "read fault: telemetry")
+text_of ReadReport = ended (codes "read fault: report")
 text_of Write = ended (codes "write fault")
 text_of Memory = ended (codes "out of memory")
+text_of (Report line) = report_refusal_text line
 text_of NotBuilt = ended (codes "not built")
 
 -- a sink got the text, or where it had a fault or wanted memory, a front of it

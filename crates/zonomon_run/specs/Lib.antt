@@ -3,3 +3,4 @@ pub mod Command
 pub mod Ending
 pub mod Endings
 pub mod Runs
+pub mod Checks

@@ -12,7 +12,7 @@ use Rattle.input_files.specs.Files.{Files, bad_model, bad_header, monitored, mod
 use Rattle.input_files.specs.Told.{OnFile, OnFiles, AreRead, ReadFailed}
 use Rattle.input_files.specs.Whole.{IsAskedAtMost}
 use Rattle.monitor_run.specs.Reports.{report_of, report_of_rows}
-use Rattle.zonomon_run.specs.Words.{asked_by, monitor, helps, later, faulty}
+use Rattle.zonomon_run.specs.Words.{asked_by, monitor, checks, helps, later, faulty}
 use Rattle.zonomon_run.specs.Ending.{Tells, text_of, usage_lines, model_refusal_text, telemetry_refusal_text}
 use Rattle.zonomon_run.specs.declared.ending.Ending.TheVariants.{ReadModel, ReadTelemetry}
 
@@ -28,6 +28,15 @@ outside shelf out err = record { shelf = shelf; out = out; err = err }
 -- what the words `run` name
 abbrev pub OnRun : List (List ℕ) → (List ℕ → List ℕ → Type 0) → Type 0
 OnRun words claim = (model telemetry : List ℕ) → asked_by words ≡ monitor model telemetry → claim model telemetry
+
+-- what the words `check` name
+abbrev pub OnCheck : List (List ℕ) → ((model telemetry report : List ℕ) → Type 0) → Type 0
+OnCheck words claim = (model telemetry report : List ℕ) → asked_by words ≡ checks model telemetry report
+    → claim model telemetry report
+
+-- the words name no report
+abbrev pub NamesNoReport : List (List ℕ) → Type 0
+NamesNoReport words = OnCheck words (λ model telemetry report. ⊥)
 
 -- the words name no file
 abbrev pub NamesNoFile : List (List ℕ) → Type 0
@@ -79,11 +88,11 @@ IsRunStatus n = (n ≡ 0) ⊎ ((n ≡ 2) ⊎ ((n ≡ 3) ⊎ ((n ≡ 4) ⊎ ((n �
 
 -- all statuses
 abbrev pub IsStatus : ℕ → Type 0
-IsStatus n = IsRunStatus n ⊎ ((n ≡ 1) ⊎ (n ≡ 8))
+IsStatus n = IsRunStatus n ⊎ ((n ≡ 1) ⊎ ((n ≡ 7) ⊎ (n ≡ 8)))
 
--- the statuses of the word `help`
-abbrev pub IsHelpStatus : ℕ → Type 0
-IsHelpStatus n = (n ≡ 0) ⊎ ((n ≡ 5) ⊎ (n ≡ 6))
+-- the statuses where one known text is put
+abbrev pub IsPutStatus : ℕ → Type 0
+IsPutStatus n = (n ≡ 0) ⊎ ((n ≡ 5) ⊎ (n ≡ 6))
 
 -- the model file is refused with a fault, and that was told
 abbrev pub ModelRefused : List ℕ → Outside → Outside → Type 0
@@ -119,13 +128,17 @@ pub record Monitors (model telemetry : List ℕ) (before : Outside) (result : �
   pub front : OnFiles before.shelf model telemetry (GainsReportFront before.out after.out)
   pub nothing : result ≡ 2 → after.out.held ≡ before.out.held
 
--- what the word `help` does
-pub record Helps (before : SinkState) (result : ℕ) (after : SinkState) : Type 0 where
-  pub status : IsHelpStatus result
-  pub whole : result ≡ 0 → Gains usage_lines before after
-  pub front : GainsFront usage_lines before after
+-- a text was put, or a front of it with a cause
+pub record PutsText (text : List ℕ) (before : SinkState) (result : ℕ) (after : SinkState) : Type 0 where
+  pub status : IsPutStatus result
+  pub whole : result ≡ 0 → Gains text before after
+  pub front : GainsFront text before after
   pub write : result ≡ 5 → Rose before.faults after.faults
   pub memory : result ≡ 6 → Rose before.wants after.wants
+
+-- what the word `help` does
+abbrev pub Helps : SinkState → ℕ → SinkState → Type 0
+Helps before result after = PutsText usage_lines before result after
 
 -- ---- what the printed lines claim
 

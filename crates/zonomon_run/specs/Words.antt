@@ -9,6 +9,7 @@ use Rattle.std.specs.declared.alloc.Global.{Global}
 -- what the words ask for
 pub data Asked : Type 0 where
   monitor : List ℕ → List ℕ → Asked
+  checks : List ℕ → List ℕ → List ℕ → Asked
   helps : Asked
   later : Asked
   faulty : Asked
@@ -31,14 +32,14 @@ two_words verb a b = if bytes_eq verb (codes "run") then monitor a b
 abbrev pub one_word : List ℕ → Asked
 one_word verb = if bytes_eq verb (codes "help") then helps else faulty
 
-abbrev pub three_words : List ℕ → Asked
-three_words verb = if bytes_eq verb (codes "check") then later else faulty
+abbrev pub three_names : List ℕ → List ℕ → List ℕ → List ℕ → Asked
+three_names verb a b c = if bytes_eq verb (codes "check") then checks a b c else faulty
 
--- `run MODEL TELEMETRY` and `help` are served; `check MODEL TELEMETRY REPORT` and `demo SEED SAMPLES` are not yet
+-- `run MODEL TELEMETRY`, `check MODEL TELEMETRY REPORT` and `help` are served; `demo SEED SAMPLES` is not yet
 abbrev pub asked_by : List (List ℕ) → Asked
 asked_by (verb ∷ []) = one_word verb
 asked_by (verb ∷ a ∷ b ∷ []) = two_words verb a b
-asked_by (verb ∷ a ∷ b ∷ c ∷ []) = three_words verb
+asked_by (verb ∷ a ∷ b ∷ c ∷ []) = three_names verb a b c
 asked_by _ = faulty
 
 abbrev pub texts : List (String Global) → List (List ℕ)

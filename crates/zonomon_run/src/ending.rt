@@ -1,14 +1,15 @@
 //! How the program ends, and what it says of it.
 ghost use Rattle.std.specs.Prelude.{◌≡◌};
 ghost use Rattle.outside_io.specs.Sink.{PutsAll};
-ghost use Rattle.zonomon_run.specs.Endings.{ending_of};
-ghost use Rattle.zonomon_run.specs.Ending.{status_of, text_of, usage_lines, model_refusal_text, telemetry_refusal_text, Tells};
+ghost use Rattle.zonomon_run.specs.Endings.{ending_of, check_ending};
+ghost use Rattle.zonomon_run.specs.Ending.{status_of, text_of, usage_lines, model_refusal_text, telemetry_refusal_text, report_refusal_text, Tells};
 
+use cert_replay::CheckFault;
 use input_files::MOST_TELEMETRY;
 use model_file::ModelFault;
 use monitor_run::RunFault;
 use outside_io::{PutFault, Sink, put_all};
-use refusal_text::{model_refusal, telemetry_refusal};
+use refusal_text::{model_refusal, report_refusal, telemetry_refusal};
 use telem_csv::TelemFault;
 
 /// How the program is called.
@@ -31,10 +32,14 @@ pub enum Ending {
     ReadModel,
     /// The telemetry could not be read.
     ReadTelemetry,
-    /// The report could not be written.
+    /// The report could not be read.
+    ReadReport,
+    /// The output could not be written.
     Write,
     /// Memory ran out.
     Memory,
+    /// The report is refused at this line, from 1.
+    Report(u64),
     /// What is asked for is not built yet.
     NotBuilt,
 }
@@ -50,6 +55,21 @@ pub fn ending_of(fault: RunFault) -> Ending
         RunFault::Read { slot: _ } => Ending::ReadTelemetry,
         RunFault::Write => Ending::Write,
         RunFault::Memory => Ending::Memory,
+    }
+}
+
+/// How the program ends where a check ended early.
+pub fn check_ending(fault: CheckFault) -> Ending
+    ensures { result ≡ check_ending fault }
+{
+    match fault {
+        CheckFault::Model(fault) => Ending::Model(fault),
+        CheckFault::Telemetry(fault) => Ending::Telemetry(fault),
+        CheckFault::Read { slot: 0 } => Ending::ReadModel,
+        CheckFault::Read { slot: 1 } => Ending::ReadTelemetry,
+        CheckFault::Read { slot: _ } => Ending::ReadReport,
+        CheckFault::Report { line } => Ending::Report(line),
+        CheckFault::Memory => Ending::Memory,
     }
 }
 
@@ -76,9 +96,11 @@ fn put_ending<E: Sink>(err: &mut E, ending: &Ending) -> Result<(), PutFault>
     match ending {
         Ending::Model(fault) => put_model_refusal(err, fault),
         Ending::Telemetry(fault) => put_telemetry_refusal(err, fault),
+        Ending::Report(line) => put_report_refusal(err, *line),
         Ending::Usage => put_all(err, usage()),
         Ending::ReadModel => put_all(err, b"read fault: model\n"),
         Ending::ReadTelemetry => put_all(err, b"read fault: telemetry\n"),
+        Ending::ReadReport => put_all(err, b"read fault: report\n"),
         Ending::Write => put_all(err, b"write fault\n"),
         Ending::Memory => put_all(err, b"out of memory\n"),
         Ending::NotBuilt => put_all(err, b"not built\n"),
@@ -103,6 +125,15 @@ fn put_telemetry_refusal<E: Sink>(err: &mut E, fault: &TelemFault) -> Result<(),
     put_all(err, &line)
 }
 
+/// Puts the line that says where a report is refused.
+fn put_report_refusal<E: Sink>(err: &mut E, number: u64) -> Result<(), PutFault>
+    ensures { PutsAll (report_refusal_text number) (E.state err.old) result (E.state err.new) }
+{
+    let mut line = report_refusal(number);
+    line.push(b'\n');
+    put_all(err, &line)
+}
+
 fn status(ending: &Ending) -> u8
     ensures { result ≡ status_of ending.now }
 {
@@ -112,8 +143,10 @@ fn status(ending: &Ending) -> u8
         Ending::Telemetry(_) => 3,
         Ending::ReadModel => 4,
         Ending::ReadTelemetry => 4,
+        Ending::ReadReport => 4,
         Ending::Write => 5,
         Ending::Memory => 6,
+        Ending::Report(_) => 7,
         Ending::NotBuilt => 8,
     }
 }

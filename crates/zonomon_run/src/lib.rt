@@ -3,8 +3,8 @@
 
 mod ending;
 mod files;
-mod help;
 mod running;
+mod texts;
 mod words;
 
 pub use running::run;

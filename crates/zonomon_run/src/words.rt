@@ -3,7 +3,7 @@ ghost use Rattle.std.specs.Prelude.{◌≡◌, ℕ, ◌≤◌, true, length, nat
 ghost use Rattle.std.specs.List.{list_all};
 ghost use Rattle.std.specs.Char.{is_ascii_digit};
 ghost use Rattle.dec_text.specs.Decimal.{number};
-ghost use Rattle.zonomon_run.specs.Words.{asked_by, texts, one_word, two_words, three_words, is_number, is_seed, is_sample_count};
+ghost use Rattle.zonomon_run.specs.Words.{asked_by, texts, one_word, two_words, three_names, is_number, is_seed, is_sample_count};
 ghost use Rattle.zonomon_run.specs.Command.{seen};
 
 /// What the words ask for.
@@ -11,6 +11,8 @@ ghost use Rattle.zonomon_run.specs.Command.{seen};
 pub enum Command<'a> {
     /// `run MODEL TELEMETRY`
     Monitor(&'a str, &'a str),
+    /// `check MODEL TELEMETRY REPORT`
+    Check(&'a str, &'a str, &'a str),
     /// `help`
     Help,
     /// A form that is not served yet.
@@ -26,7 +28,12 @@ pub fn command_of(words: &[String]) -> Command<'_>
     match words.len() {
         1 => one_word(words[0].as_str()),
         3 => two_words(words[0].as_str(), words[1].as_str(), words[2].as_str()),
-        4 => three_words(words[0].as_str()),
+        4 => three_names(
+            words[0].as_str(),
+            words[1].as_str(),
+            words[2].as_str(),
+            words[3].as_str(),
+        ),
         _ => Command::Faulty,
     }
 }
@@ -41,11 +48,11 @@ fn one_word(verb: &str) -> Command<'static>
     }
 }
 
-fn three_words(verb: &str) -> Command<'static>
-    ensures { seen result ≡ three_words verb.now }
+fn three_names<'a>(verb: &str, first: &'a str, second: &'a str, third: &'a str) -> Command<'a>
+    ensures { seen result ≡ three_names verb.now first.now second.now third.now }
 {
     if verb == "check" {
-        Command::Later
+        Command::Check(first, second, third)
     } else {
         Command::Faulty
     }

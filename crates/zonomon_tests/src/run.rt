@@ -1,3 +1,5 @@
+mod check_faults;
+mod checks;
 mod faults;
 mod inputs;
 mod one_model;
@@ -10,7 +12,7 @@ use std::alloc::Global;
 use std::test::Fail;
 use zonomon_run::run;
 
-/// How a call of the program ended.
+/// How a call of the program ended: its status, what was put to `out`, and what was put to `err`.
 #[derive(Drop)]
 struct Ran {
     status: u8,
@@ -36,10 +38,21 @@ fn words_of(alloc: Global, texts: &[&str]) -> Result<Vec<String>, Fail> {
 
 /// Runs the program over a model file and a telemetry in memory.
 fn run_over(alloc: Global, model: &str, telemetry: &str) -> Result<Ran, Fail> {
-    let words = words_of(alloc, &["run", "m", "t"])?;
+    call_over(alloc, &["run", "m", "t"], [model, telemetry, ""])
+}
+
+/// Checks a report against a model file and a telemetry in memory.
+fn check_over(alloc: Global, model: &str, telemetry: &str, report: &str) -> Result<Ran, Fail> {
+    call_over(alloc, &["check", "m", "t", "r"], [model, telemetry, report])
+}
+
+/// Calls the program with these words, where `m`, `t` and `r` name these files in memory.
+fn call_over(alloc: Global, texts: &[&str], files: [&str; 3]) -> Result<Ran, Fail> {
+    let words = words_of(alloc, texts)?;
     let mut shelf = SureShelf::of(alloc);
-    shelf.add("m", model.as_bytes())?;
-    shelf.add("t", telemetry.as_bytes())?;
+    shelf.add("m", files[0].as_bytes())?;
+    shelf.add("t", files[1].as_bytes())?;
+    shelf.add("r", files[2].as_bytes())?;
     let mut out = SureSink::of(alloc);
     let mut err = SureSink::of(alloc);
     let status = run(alloc, &words, &mut shelf, &mut out, &mut err);

@@ -5,7 +5,7 @@ use std::alloc::Global;
 use std::test::Fail;
 
 /// The model P over the reading 0.5.
-const HALF: &str = "zonomon 1
+pub const HALF: &str = "zonomon 1
 model 0 P
 sample 0
 p 0 0 -1.100000000 1.100000000
