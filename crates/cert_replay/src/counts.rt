@@ -22,6 +22,14 @@ impl LineCounts {
     ghost use Rattle.model_bank.specs.Bank.{plants_in};
     ghost use Rattle.cert_replay.specs.Offers.{AreCountsOf};
 
+    /// How many models there are.
+    pub fn models(&self) -> usize
+        ensures value { result ≡ length self.now.states.items }
+        ensures few { result ≤ 16 }
+    {
+        self.states.len()
+    }
+
     /// The counts of the models of a file.
     pub fn of(models: &Bank0) -> LineCounts
         ensures { AreCountsOf result (plants_in models.now) }

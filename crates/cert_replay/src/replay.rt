@@ -50,7 +50,7 @@ impl Replay {
         ensures read { IfRead result (λ slot. Rose ((F.state shelf.old).slot 2).faults ((F.state shelf.new).slot 2).faults) }
         ensures kept { ReadsOn 2 (F.state shelf.old) (F.state shelf.new) }
     {
-        let lives = live_models(&self.last.possible, self.counts.states.len());
+        let lives = live_models(&self.last.possible, self.counts.models());
         let offers = take_sample(&mut self.window, shelf, &self.counts, &lives)?;
         let k = self.bank.count();
         match self.bank.step_with_into(sample, &offers, &mut self.last) {

@@ -26,7 +26,7 @@ returns-in-Ok-clause-taken g c =
     let ahead = c.in_ok-offers.ensures.ahead in
     let takes : Checked names ps taken bytes r0 s0 → (ps : List Plant) → AreCountsOf r0.counts ps → (unread : List ℕ) → HasUnread r0.window s0 unread → TakesSample ps r0.last.possible.items (left_in w1) unread os =
     λ checked qs are u h.
-        let many : length c.deref.result.now ≡ c.len.result = ap length c.deref.ensures.0 ∙ possible-many names ps taken bytes r0 s0 models checked ∙ sym c.len.ensures.value in
+        let many : length c.deref.result.now ≡ c.models.result = ap length c.deref.ensures.0 ∙ possible-many names ps taken bytes r0 s0 models checked ∙ sym c.models.ensures.value in
         let lives : c.deref-2.result.now ≡ r0.last.possible.items = c.deref-2.ensures.0 ∙ c.live_models-lives.ensures.same many ∙ c.deref.ensures.0 in
         subst (λ ls. TakesSample qs ls (left_in w1) u os) lives (c.in_ok-offers.ensures.taken qs are u h) in
     let all : TakesAnyOffers s os r0.bank (sample_seen c.step_with_into.new.earlier) c.step_with_into.new.self =
@@ -46,7 +46,7 @@ returns-in-Ok-clause-departs g c =
     let ahead = c.in_ok-offers.ensures.ahead in
     let takes : Checked names ps taken bytes r0 s0 → (ps : List Plant) → AreCountsOf r0.counts ps → (unread : List ℕ) → HasUnread r0.window s0 unread → TakesSample ps r0.last.possible.items (left_in w1) unread os =
     λ checked qs are u h.
-        let many : length c.deref.result.now ≡ c.len.result = ap length c.deref.ensures.0 ∙ possible-many names ps taken bytes r0 s0 models checked ∙ sym c.len.ensures.value in
+        let many : length c.deref.result.now ≡ c.models.result = ap length c.deref.ensures.0 ∙ possible-many names ps taken bytes r0 s0 models checked ∙ sym c.models.ensures.value in
         let lives : c.deref-2.result.now ≡ r0.last.possible.items = c.deref-2.ensures.0 ∙ c.live_models-lives.ensures.same many ∙ c.deref.ensures.0 in
         subst (λ ls. TakesSample qs ls (left_in w1) u os) lives (c.in_ok-offers.ensures.taken qs are u h) in
     let all : TakesAnyOffers s os r0.bank (sample_seen c.step_with_into.new.earlier) c.step_with_into.new.self =
@@ -65,7 +65,7 @@ returns-in-Err-clause-departs g c = λ names ps taken bytes models checked line 
     let ahead = c.in_ok-offers.ensures.ahead in
     let takes : Checked names ps taken bytes r0 s0 → (ps : List Plant) → AreCountsOf r0.counts ps → (unread : List ℕ) → HasUnread r0.window s0 unread → TakesSample ps r0.last.possible.items (left_in w1) unread os =
     λ checked qs are u h.
-        let many : length c.deref.result.now ≡ c.len.result = ap length c.deref.ensures.0 ∙ possible-many names ps taken bytes r0 s0 models checked ∙ sym c.len.ensures.value in
+        let many : length c.deref.result.now ≡ c.models.result = ap length c.deref.ensures.0 ∙ possible-many names ps taken bytes r0 s0 models checked ∙ sym c.models.ensures.value in
         let lives : c.deref-2.result.now ≡ r0.last.possible.items = c.deref-2.ensures.0 ∙ c.live_models-lives.ensures.same many ∙ c.deref.ensures.0 in
         subst (λ ls. TakesSample qs ls (left_in w1) u os) lives (c.in_ok-offers.ensures.taken qs are u h) in
     let all : RefusesAnOffer s os r0.bank (refusal_with c.in-Err.refused c.step_with_into.new.earlier.models.items) =
