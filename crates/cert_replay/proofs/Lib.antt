@@ -12,3 +12,4 @@ pub mod Named
 pub mod Heads
 pub mod Turned
 pub mod Said
+pub mod Counted

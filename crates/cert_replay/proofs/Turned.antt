@@ -1,7 +1,7 @@
 -- The turns of a check over the rows of a telemetry.
-use Rattle.std.proofs.Common.{◌≡◌, ◌≢◌, ℕ, ◌+◌, ◌^◌, ◌<◌, ◌≤◌, Bool, true, false, is_none, List, [], ◌∷◌, ◌++◌, length, Option, Some, None, IfSome, Result, Ok, Err, refl, sym, ap, ◌∙◌, subst, arith, append_assoc, append-nil, length-append}
+use Rattle.std.proofs.Common.{◌≡◌, ◌≢◌, ℕ, ◌+◌, ◌^◌, ◌<◌, ◌≤◌, Bool, true, false, is_none, List, [], ◌∷◌, ◌++◌, length, Option, Some, None, IfSome, Result, Ok, Err, IfErr, IfOk, OnOk, refl, sym, ap, ◌∙◌, subst, arith, append_assoc, append-nil, length-append}
 use Rattle.plant_model.specs.Plant.{Plant, Sample}
-use Rattle.outside_io.specs.Shelf.{ShelfState}
+use Rattle.outside_io.specs.Shelf.{SlotState, ShelfState}
 use Rattle.telem_csv.specs.Columns.{Columns}
 use Rattle.telem_csv.specs.Cutter.{Cutter, rows_owed}
 use Rattle.telem_csv.specs.Rows.{Rows, no_rows, refused_rows}
@@ -17,12 +17,13 @@ use Rattle.report_rules.specs.Replay.{watch, Replayed, Satisfies, DepartsAt, lin
 use Rattle.report_rules.proofs.Departs.{end-satisfies, end-departs, behind-departs, refused-satisfies}
 use Rattle.cert_replay.specs.Checked.{AreModels, Checked, DepartsInSample}
 use Rattle.cert_replay.specs.Ends.{SaysOfChecked, EndDeparts}
-use Rattle.cert_replay.specs.Faults.{telemetry_fault}
+use Rattle.cert_replay.specs.Faults.{telemetry_fault, IsSampleFault}
 use Rattle.cert_replay.specs.Window.{HasUnread}
 use Rattle.cert_replay.specs.declared.fault.Accepted.{Accepted}
 use Rattle.cert_replay.specs.declared.fault.CheckFault.{CheckFault}
 use Rattle.cert_replay.specs.declared.fault.CheckFault.TheVariants.{Model, Telemetry, Read, Report, Memory}
 use Rattle.cert_replay.specs.declared.replay.Replay.{Replay}
+use Rattle.cert_replay.specs.declared.window.Window.{Window}
 
 -- after these samples: the report was replayed up to them, and the telemetry owes what it owed less these samples
 pub record Turned (head : Columns) (r0 r : Replay) (s0 s : ShelfState) (c0 c : Cutter) (left0 left : List ℕ) (rest0 rest : Option (List ℕ)) (taken : List Sample) : Type 0 where
@@ -134,3 +135,56 @@ module _ {head : Columns} {r0 r : Replay} {s0 s : ShelfState} {c0 c : Cutter} {l
                 subst (λ n. DepartsAt (watch names ps taken true) n bytes) (sym (e ∙ ap (λ n. n + 2) now.lines))
                 (behind-departs names ps taken now.choice bytes now.unread now.replayed v (is ∙ ap (λ n. put_text (end n) ++ v) now.stands.count_is) some)
         by (Err Memory) departs stands not = tt
+
+-- ---- where the other slot was read
+
+pub unread-same : (w : Window) (s s' : ShelfState) → s'.slot 2 ≡ s.slot 2 → (unread : List ℕ) → HasUnread w s unread → HasUnread w s' unread
+unread-same w s s' same unread u = record { rest = u.rest; told = ap (λ (x : SlotState). x.rest) same ∙ u.told; is = u.is }
+
+pub checked-same : (names : List (List ℕ)) (ps : List Plant) (taken : List Sample) (bytes : List ℕ) (r : Replay) (s s' : ShelfState) → s'.slot 2 ≡ s.slot 2
+    → Checked names ps taken bytes r s → Checked names ps taken bytes r s'
+checked-same names ps taken bytes r s s' same c = record {
+  choice = c.choice;
+  unread = c.unread;
+  left = unread-same r.window s s' same c.unread c.left;
+  replayed = c.replayed;
+  stands = c.stands;
+  possible_are = c.possible_are;
+  lines = c.lines;
+}
+
+-- ---- what a result says
+
+pub if-err-at : {A E : Type 0} (r : Result A E) (P : E → Type 0) (e : E) → IfErr r P → r ≡ Err e → P e
+if-err-at (Ok x) P e h is = absurd cc
+if-err-at (Err f) P e h is = let same : f ≡ e = cc in subst P same h
+
+pub if-ok-at : {A E : Type 0} (r : Result A E) (P : A → Type 0) (x : A) → IfOk r P → r ≡ Ok x → P x
+if-ok-at (Err e) P x h is = absurd cc
+if-ok-at (Ok y) P x h is = let same : y ≡ x = cc in subst P same h
+
+pub on-ok-at : {A E : Type 0} (r : Result A E) (P : Type 0) (x : A) → OnOk r P → r ≡ Ok x → P
+on-ok-at (Err e) P x h is = absurd cc
+on-ok-at (Ok y) P x h is = h
+
+-- a fault in the lines of a sample
+pub turn-fault : {head : Columns} {r0 r : Replay} {s0 s : ShelfState} {c0 c : Cutter} {left0 left : List ℕ} {rest0 rest : Option (List ℕ)} {taken : List Sample} (t : Turned head r0 r s0 s c0 c left0 left rest0 rest taken)
+    (c' : Cutter) (left' : List ℕ) (rest' : Option (List ℕ)) (one : Sample) → BothTold rest rest' (λ r r'. rows_owed head c (left ++ r) ≡ with_sample one (rows_owed head c' (left' ++ r')))
+    → (names : List (List ℕ)) (ps : List Plant) (bytes : List ℕ) → AreModels names ps r0.counts → Checked names ps [] bytes r0 s0 → r.counts ≡ r0.counts
+    → (fault : CheckFault) → IsSampleFault fault
+    → ((names : List (List ℕ)) (ps : List Plant) (taken : List Sample) (bytes : List ℕ) → AreModels names ps r.counts → Checked names ps taken bytes r s → DepartsInSample names ps taken one bytes fault)
+    → IfSome rest0 (λ x. SaysOfChecked names ps (Err fault) (rows_owed head c0 (left0 ++ x)) bytes)
+turn-fault t c' left' rest' one row names ps bytes models begun same (Model fault) is departs = absurd is
+turn-fault t c' left' rest' one row names ps bytes models begun same (Telemetry fault) is departs = absurd is
+turn-fault {head} {r0} {r} {s0} {s} {c0} {c} {left0} {left} {rest0} t c' left' rest' one row names ps bytes models begun same (Read slot) is departs = any rest0
+  where
+    any : (a : Option (List ℕ)) → IfSome a (λ x. SaysOfChecked names ps (Err (Read slot)) (rows_owed head c0 (left0 ++ x)) bytes)
+    any None = tt
+    any (Some x) = tt
+turn-fault t c' left' rest' one row names ps bytes models begun same (Report line) is departs =
+    turn-departs t c' left' rest' one row names ps bytes models begun line same departs
+turn-fault {head} {r0} {r} {s0} {s} {c0} {c} {left0} {left} {rest0} t c' left' rest' one row names ps bytes models begun same Memory is departs = any rest0
+  where
+    any : (a : Option (List ℕ)) → IfSome a (λ x. SaysOfChecked names ps (Err Memory) (rows_owed head c0 (left0 ++ x)) bytes)
+    any None = tt
+    any (Some x) = tt

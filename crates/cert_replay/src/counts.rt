@@ -12,10 +12,11 @@ use plant_model::AnyPlant;
 pub struct LineCounts {
     /// At most 6, the same of all models.
     pub outputs: usize,
-    /// At most 8, by model.
+    /// From 1 to 8, by model.
     pub states: ArrayVec<usize, 16>,
     ghost few_outputs: { outputs ≤ 6 },
     ghost few_states: { All (λ n. n ≤ 8) states.items },
+    ghost some_state: { All (λ n. 1 ≤ n) states.items },
 }
 
 impl LineCounts {
@@ -48,6 +49,7 @@ impl LineCounts {
 /// The number of states of a plant.
 fn states_of(plant: &AnyPlant) -> usize
     ensures value { result ≡ (plant_of plant.now).states }
+    ensures some { 1 ≤ result }
     ensures few { result ≤ 8 }
 {
     match plant {
