@@ -24,7 +24,7 @@ use Rattle.cert_replay.specs.declared.replay.Replay.{Replay}
 abbrev pub first_states : Models → ℕ → List ℕ
 first_states m i = map (λ (p : Plant). p.states) (take i (plants_in m))
 
-length-plants : (m : Models) → length (plants_in m) ≡ length m.models
+pub length-plants : (m : Models) → length (plants_in m) ≡ length m.models
 length-plants m = length-map m.models (λ (n : Named). n.plant)
 
 pub length-first : (m : Models) (i : ℕ) → i ≤ length m.models → length (first_states m i) ≡ i
@@ -48,7 +48,7 @@ outputs-are m n is e k d l =
 -- what holds of all counts holds of the plants
 pub of-counts : (P : ℕ → Type 0) (c : LineCounts) (ps : List Plant) → AreCountsOf c ps → All P c.states.items → All (λ (p : Plant). P p.states) ps
 of-counts P c ps are all k d l =
-    subst P (sym (ap (λ xs. get_or xs k d.states) (sym are.states_are) ∙ get_or-map (λ (p : Plant). p.states) ps k d))
+    subst P (ap (λ xs. get_or xs k d.states) (sym are.states_are) ∙ get_or-map (λ (p : Plant). p.states) ps k d)
     (all k d.states (omega (arith, l, length-map ps (λ (p : Plant). p.states), ap length are.states_are)))
 
 pub are-models : (m : Models) (c : LineCounts) → IsModels m → AreCountsOf c (plants_in m) → AreModels (names_in m) (plants_in m) c

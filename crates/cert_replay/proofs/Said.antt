@@ -1,11 +1,11 @@
 -- What a check says of its files.
-use Rattle.std.proofs.Common.{◌≡◌, ◌≢◌, ◌⊎◌, inl, inr, ℕ, is_none, List, [], ◌∷◌, Option, Some, None, IfSome, Result, Ok, Err, IfErr, refl, sym, ap, ◌∙◌, subst}
+use Rattle.std.proofs.Common.{◌≡◌, ◌≢◌, ◌⊎◌, inl, inr, ℕ, is_none, List, [], ◌∷◌, ◌++◌, Option, Some, None, IfSome, Result, Ok, Err, IfErr, refl, sym, ap, ◌∙◌, subst}
 use Rattle.model_file.specs.Bank.{Models}
 use Rattle.model_file.specs.ModelFile.{models_of}
 use Rattle.model_bank.specs.Bank.{plants_in, names_in}
 use Rattle.telem_csv.specs.Rows.{Rows}
 use Rattle.telem_csv.specs.declared.fault.TelemFault.{TelemFault}
-use Rattle.input_files.specs.Files.{Files, bad_model, bad_header, monitored, with_models, files_with, files_of, model_refusal}
+use Rattle.input_files.specs.Files.{Files, bad_model, bad_header, monitored, with_models, files_with, files_of, model_refusal, most_telemetry}
 use Rattle.input_files.specs.Judged.{JudgesModel}
 use Rattle.input_files.specs.declared.model.ModelEnding.{ModelEnding}
 use Rattle.input_files.specs.declared.model.ModelEnding.TheVariants as models
@@ -14,7 +14,13 @@ use Rattle.input_files.specs.declared.stream.StreamFault.TheVariants as stream
 use Rattle.input_files.proofs.Models.{accepted-is}
 use Rattle.cert_replay.specs.Outcome.{SaysOfModel, SaysOfRows, SaysOfReport}
 use Rattle.cert_replay.specs.Ends.{AreNamed, SaysOfChecked, IsRowsEnding}
-use Rattle.cert_replay.specs.Faults.{model_fault, telemetry_fault}
+use Rattle.outside_io.specs.declared.shelf.GetFault.{GetFault}
+use Rattle.outside_io.specs.declared.shelf.GetFault.TheVariants as get
+use Rattle.telem_csv.specs.Cutter.{at_start, telemetry_owed}
+use Rattle.telem_csv.specs.Telemetry.{no_header}
+use Rattle.monitor_run.proofs.Opened.{of-some, with-refusal}
+use Rattle.input_files.specs.Stream.{BothTold, stream_fault}
+use Rattle.cert_replay.specs.Faults.{model_fault, telemetry_fault, report_fault}
 use Rattle.cert_replay.specs.declared.fault.Accepted.{Accepted}
 use Rattle.cert_replay.specs.declared.fault.CheckFault.{CheckFault}
 use Rattle.cert_replay.specs.declared.fault.CheckFault.TheVariants.{Model, Telemetry, Read, Report, Memory}
@@ -59,7 +65,7 @@ with-named ms (Some m) (Some t) (Some bytes) read P h = subst (λ r. P (with_mod
 pub accepted-said : (ms : Models) (model : Option (List ℕ)) → IfSome model (λ m. models_of m ≡ Ok ms) → (r : Result Accepted CheckFault) → IfErr r IsRowsEnding → IfSome model (SaysOfModel r)
 unfolding model_refusal
 accepted-said ms None read r ends = tt
-accepted-said ms (Some m) read r ends = by r ends (accepted-is m ms read)
+accepted-said ms (Some m) read r ends = by r ends (accepted-is ms m read)
   where
     by : (r : Result Accepted CheckFault) → IfErr r IsRowsEnding → model_refusal m ≡ None → SaysOfModel r m
     by (Ok accepted) ends e = e
@@ -90,8 +96,20 @@ model-ends (models.Refused fault) (Some m) (Some t) (Some bytes) h = by (files_o
 model-ends models.Read (Some m) (Some t) (Some bytes) h = read-said 0 (files_of m t) bytes
 model-ends models.Memory (Some m) (Some t) (Some bytes) h = memory-said (files_of m t) bytes
 
--- where the telemetry gave no header
-pub header-said : (f : StreamFault) (files : Files) (bytes : List ℕ) → ((fault : TelemFault) → f ≡ stream.Refused fault → files ≡ bad_header fault) → SaysOfReport (Err (telemetry_fault f)) files bytes
-header-said (stream.Refused fault) files bytes is = subst (λ files. SaysOfReport (Err (Telemetry fault)) files bytes) (sym (is fault refl)) refl
-header-said stream.Read files bytes is = read-said 1 files bytes
-header-said stream.Memory files bytes is = memory-said files bytes
+-- where the report or the telemetry could not be opened
+pub report-said : (f : GetFault) (files : Files) (bytes : List ℕ) → SaysOfReport (Err (report_fault f)) files bytes
+report-said get.Failed files bytes = read-said 2 files bytes
+report-said get.Memory files bytes = memory-said files bytes
+
+pub opened-said : (f : GetFault) (files : Files) (bytes : List ℕ) → SaysOfReport (Err (telemetry_fault (stream_fault f))) files bytes
+opened-said get.Failed files bytes = read-said 1 files bytes
+opened-said get.Memory files bytes = memory-said files bytes
+
+-- the telemetry from its first byte, where no header came
+pub no-header-said : (ms : Models) (f : StreamFault) (file rest rest' : Option (List ℕ)) → rest ≡ file
+    → ((fault : TelemFault) → f ≡ stream.Refused fault → BothTold rest rest' (λ r r'. telemetry_owed ms.inputs ms.outputs (at_start most_telemetry) ([] ++ r) ≡ no_header fault))
+    → (bytes : List ℕ) → IfSome file (λ t. SaysOfReport (Err (telemetry_fault f)) (files_with ms t) bytes)
+no-header-said ms (stream.Refused fault) file rest rest' opened refused bytes =
+    with-refusal ms (λ files. SaysOfReport (Err (Telemetry fault)) files bytes) file rest rest' opened fault (refused fault refl) refl
+no-header-said ms stream.Read file rest rest' opened refused bytes = of-some file _ (λ t. read-said 1 (files_with ms t) bytes)
+no-header-said ms stream.Memory file rest rest' opened refused bytes = of-some file _ (λ t. memory-said (files_with ms t) bytes)
