@@ -31,6 +31,8 @@ mod run;
 #[cfg(test)]
 mod sets;
 #[cfg(test)]
+mod streaming;
+#[cfg(test)]
 mod telemetries;
 #[cfg(test)]
 mod telemetry_refusals;

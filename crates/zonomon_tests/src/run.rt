@@ -1,10 +1,10 @@
 mod check_faults;
 mod checks;
 mod faults;
-mod inputs;
+pub mod inputs;
 mod one_model;
 mod refusals;
-mod several_models;
+pub mod several_models;
 mod words;
 
 use outside_io::{SureShelf, SureSink};
@@ -14,21 +14,21 @@ use zonomon_run::run;
 
 /// How a call of the program ended: its status, what was put to `out`, and what was put to `err`.
 #[derive(Drop)]
-struct Ran {
-    status: u8,
-    report: String,
-    told: String,
+pub struct Ran {
+    pub status: u8,
+    pub report: String,
+    pub told: String,
 }
 
 impl Ran {
     /// The status, what was put to `out`, and what was put to `err`.
-    fn said(&self) -> (u8, &str, &str) {
+    pub fn said(&self) -> (u8, &str, &str) {
         (self.status, self.report.as_str(), self.told.as_str())
     }
 }
 
 /// The words of a call.
-fn words_of(alloc: Global, texts: &[&str]) -> Result<Vec<String>, Fail> {
+pub fn words_of(alloc: Global, texts: &[&str]) -> Result<Vec<String>, Fail> {
     let mut words = Vec::new(alloc);
     for text in texts {
         words.push(String::from_str(alloc, text)?)?;

@@ -156,7 +156,7 @@ fn rows_before_a_refused_line_are_samples(rt: HostRuntime) {
     ];
     for (text, samples, last, refusal) in cases {
         for step in [1, 2, 3, 1000] {
-            let done = read_in_pieces(rt.alloc(), false, 16_777_216, text, step);
+            let done = read_in_pieces(rt.alloc(), false, 1_073_741_824, text, step);
             assert_eq!(rt; done.samples, samples, "at {text:?}");
             assert_eq!(rt; done.last, last, "at {text:?}");
             assert_eq!(rt; done.fault, refusal, "at {text:?}");
@@ -190,7 +190,7 @@ fn inputs_are_present_and_within_a_million_units(rt: HostRuntime) {
         (b"z,z\n", 0, fault(1, TelemWhy::NoColumn(INPUT))),
     ];
     for (text, samples, refusal) in cases {
-        let done = read_in_pieces(rt.alloc(), true, 16_777_216, text, 1000);
+        let done = read_in_pieces(rt.alloc(), true, 1_073_741_824, text, 1000);
         assert_eq!(rt; done.samples, samples, "at {text:?}");
         assert_eq!(rt; done.fault, refusal, "at {text:?}");
     }
@@ -220,34 +220,6 @@ fn the_byte_past_a_limit_refuses_its_line(rt: HostRuntime) {
     text[4099] = b'\n';
     let counted = read_in_pieces(rt.alloc(), false, 5000, &text, 7);
     assert_eq!(rt; counted.fault, fault(2, TelemWhy::LongLine));
-}
-
-#[test]
-fn a_cutter_is_fed_byte_by_byte(rt: HostRuntime) {
-    let mut cutter = LineCutter::new(6);
-    assert_eq!(rt; cutter.number(), 1);
-    let wanted = [
-        Fed::More,
-        Fed::Line,
-        Fed::More,
-        Fed::More,
-        Fed::More,
-        Fed::Line,
-    ];
-    for (byte, want) in b"y\n0.5\n".iter().zip(wanted.iter()) {
-        let (taken, fed) = cutter.feed(&[*byte]);
-        assert_eq!(rt; taken, 1);
-        assert_eq!(rt; fed, *want);
-    }
-    assert_eq!(rt; cutter.number(), 2);
-    let (taken, fed) = cutter.feed(b"1\n");
-    assert_eq!(rt; taken, 1);
-    assert_eq!(rt; fed, Fed::OverLimit);
-    assert_eq!(rt; cutter.number(), 3);
-    let (taken, fed) = cutter.feed(b"1\n");
-    assert_eq!(rt; taken, 0);
-    assert_eq!(rt; fed, Fed::OverLimit);
-    assert_eq!(rt; cutter.finish(), Fed::OverLimit);
 }
 
 #[test]

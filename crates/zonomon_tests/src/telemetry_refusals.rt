@@ -54,7 +54,7 @@ fn each_cause_has_its_text(rt: HostRuntime) {
         ),
         (
             TelemWhy::TooLong,
-            b"telemetry refused: line 3: file over 16777216 bytes",
+            b"telemetry refused: line 3: file over 1073741824 bytes",
         ),
         (TelemWhy::Memory, b"out of memory"),
         (
@@ -66,7 +66,7 @@ fn each_cause_has_its_text(rt: HostRuntime) {
         ),
     ];
     for (why, want) in cases {
-        let said = telemetry_refusal(&TelemFault { line: 3, why }, 16_777_216);
+        let said = telemetry_refusal(&TelemFault { line: 3, why }, 1_073_741_824);
         assert_eq!(rt; said.as_slice(), want);
     }
 }

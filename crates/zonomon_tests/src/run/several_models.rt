@@ -67,7 +67,7 @@ fn models_of_different_sizes_run_together(rt: HostRuntime) -> Result<(), Fail> {
 }
 
 /// The lines of a report that say nothing of an interval.
-fn without_intervals(alloc: Global, report: &str) -> Result<String, Fail> {
+pub fn without_intervals(alloc: Global, report: &str) -> Result<String, Fail> {
     let mut kept = String::new(alloc);
     for line in report.lines() {
         if !line.starts_with("p ") && !line.starts_with("h ") {
@@ -87,7 +87,8 @@ p 0 0 98.500000000 101.500000000
 p 0 1 18.700000000 21.300000000
 ";
 
-const FRICTION_ISOLATED: &str = "zonomon 1
+/// The report of the wheel without the lines of intervals.
+pub const FRICTION_ISOLATED: &str = "zonomon 1
 model 0 nominal
 model 1 friction
 model 2 stuck
