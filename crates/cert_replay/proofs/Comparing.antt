@@ -1,5 +1,5 @@
 -- Text that is made, beside what a window has left.
-use Rattle.std.proofs.Common.{◌≡◌, ◌≢◌, ℕ, ◌+◌, ◌-◌, ◌<◌, ◌≤◌, Bool, true, false, not, List, [], ◌∷◌, ◌++◌, length, take, drop, get_or, Option, Some, None, Result, Ok, Err, IfErr, refl, sym, ap, ◌∙◌, arith, subst, append-nil, drop-cons, suc}
+use Rattle.std.proofs.Common.{◌≡◌, ◌≢◌, ℕ, ◌+◌, ◌<◌, ◌≤◌, Bool, true, false, not, List, [], ◌∷◌, ◌++◌, length, take, drop, get_or, Result, Ok, Err, IfErr, refl, sym, ap, ◌∙◌, arith, drop-cons, suc}
 use Rattle.std.specs.List.{count_by, starts_with}
 use Rattle.std.specs.Result.{is_err}
 use Rattle.std.proofs.Math.Dec.{eqb}

@@ -1,10 +1,10 @@
 -- The counts of the models of a file.
-use Rattle.std.proofs.Common.{◌≡◌, ℕ, ◌+◌, ◌<◌, ◌≤◌, true, is_none, replicate, refl, append-nil, Err, List, [], ◌∷◌, ◌++◌, length, map, take, get_or, sym, ap, ◌∙◌, arith, subst, length-append}
+use Rattle.std.proofs.Common.{◌≡◌, ℕ, ◌+◌, ◌<◌, ◌≤◌, true, is_none, replicate, refl, append-nil, Err, List, [], ◌∷◌, ◌++◌, length, map, take, get_or, sym, ap, ◌∙◌, arith, subst}
 use Rattle.std.specs.List.{All}
 use Rattle.std.proofs.Math.ListN.{get_or-map}
 use Rattle.std.proofs.lemmas.List.{length-map, take_more, take_all, get_or_default, map-append, length-take-le}
 use Rattle.plant_model.specs.Plant.{Plant}
-use Rattle.model_file.specs.Bank.{Models, Named, IsModels, HasCounts, no_model}
+use Rattle.model_file.specs.Bank.{Models, Named, IsModels, no_model}
 use Rattle.outside_io.specs.Shelf.{ShelfState}
 use Rattle.telem_csv.specs.Rows.{Rows}
 use Rattle.model_bank.specs.Bank.{BankStands, plants_in, names_in}

@@ -1,8 +1,7 @@
 -- Where a window's text departs from lines that it is compared with.
-use Rattle.std.proofs.Common.{◌≡◌, ◌≢◌, ◌⊎◌, inl, inr, ℕ, zero, suc, ◌+◌, ◌-◌, ◌<◌, ◌≤◌, ◌==◌, nat_lt, Bool, true, false, ◌||◌, ◌&&◌, List, [], ◌∷◌, ◌++◌, length, get_or, take, drop, refl, sym, ap, ◌∙◌, arith, subst, append-nil, append_assoc, length-append}
+use Rattle.std.proofs.Common.{◌≡◌, ◌≢◌, ◌⊎◌, inl, inr, ℕ, suc, ◌+◌, ◌<◌, ◌≤◌, nat_lt, Bool, true, false, ◌||◌, List, [], ◌∷◌, ◌++◌, length, get_or, take, drop, refl, sym, ap, ◌∙◌, arith, append-nil, append_assoc, length-append}
 use Rattle.std.specs.List.{list_all, list_any, count_by}
-use Rattle.std.proofs.lemmas.List.{take-append-drop, take_more, append_cancel_left, length-take-le, length-drop}
-use Rattle.std.specs.List.{sum_by}
+use Rattle.std.proofs.lemmas.List.{take-append-drop, take_more, append_cancel_left, length-take-le}
 use Rattle.std.specs.Prelude.{cond}
 use Rattle.std.proofs.lemmas.List.Sums.{sum_by-append}
 use Rattle.std.proofs.lemmas.Bool.Decides.{nat_tests}
@@ -11,10 +10,10 @@ use Rattle.report_text.specs.Line.{Line, line_text, put_text, lines_text}
 use Rattle.report_text.specs.Laws.{is_feed}
 use Rattle.report_text.specs.Ranges.{is_in_range}
 use Rattle.report_text.proofs.Sizes.{lines-have_no_feed}
-use Rattle.report_rules.specs.Replay.{with_feeds, is_short_line, HasNoLine, TakesEnough}
+use Rattle.report_rules.specs.Replay.{with_feeds, is_short_line, TakesEnough}
 use Rattle.report_rules.proofs.Placed.{both}
 use Rattle.report_rules.proofs.Departs.{lines_text-append}
-use Rattle.report_rules.proofs.Refused.{StartsLine, Aligned, aligned, no-start, short-feeds}
+use Rattle.report_rules.proofs.Refused.{Aligned, aligned, no-start, short-feeds}
 use Rattle.cert_replay.specs.Window.{PartsBehind}
 
 below-or : (a b : ℕ) → (a < b) ⊎ (b ≤ a)

@@ -1,11 +1,11 @@
 -- Which texts exclude a model.
-use Rattle.std.proofs.Common.{◌≡◌, ◌≢◌, ℕ, ◌<◌, ◌≤◌, Bool, true, false, List, [], ◌∷◌, length, Option, Some, None, Result, Ok, Err, option_map, refl, sym, ap, ◌∙◌, arith, subst}
-use Rattle.std.specs.Prelude.{IfSome, IfNone, ◌↔◌}
+use Rattle.std.proofs.Common.{◌≡◌, ◌≢◌, ℕ, ◌<◌, true, false, List, [], ◌∷◌, length, Option, Some, None, option_map, refl, sym, ap, ◌∙◌, arith, subst}
+use Rattle.std.specs.Prelude.{IfSome, IfNone}
 use Rattle.std.specs.List.{starts_with}
 use Rattle.std.proofs.Math.Dec.{eqb}
 use Rattle.farkas_check.specs.Certificate.{Certificate, certificate_of}
 use Rattle.farkas_check.specs.declared.certificate.Cert.{Cert}
-use Rattle.report_text.specs.Line.{Line, exclude, line_text}
+use Rattle.report_text.specs.Line.{Line, exclude}
 use Rattle.report_text.specs.Ranges.{IsLine}
 use Rattle.report_text.specs.Seen.{line_of}
 use Rattle.report_text.specs.declared.line.RepLine.{RepLine}

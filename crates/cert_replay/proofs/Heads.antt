@@ -1,6 +1,6 @@
 -- The head and the last line of a report that is checked.
-use Rattle.std.proofs.Common.{◌≡◌, ◌≢◌, inl, inr, ℕ, suc, zero, ◌+◌, ◌^◌, ◌<◌, ◌≤◌, nat_lt, Bool, true, ◌&&◌, List, [], ◌∷◌, ◌++◌, length, map, take, drop, get_or, Option, Some, None, refl, sym, ap, ◌∙◌, arith, subst, append-nil, append_assoc, length-append}
-use Rattle.std.specs.List.{All, list_all, count_by, enumerate_from}
+use Rattle.std.proofs.Common.{◌≡◌, inl, inr, ℕ, suc, ◌+◌, ◌^◌, ◌<◌, ◌≤◌, nat_lt, Bool, true, ◌&&◌, List, [], ◌∷◌, ◌++◌, length, map, take, drop, get_or, Option, Some, None, refl, sym, ap, ◌∙◌, arith, subst, append-nil, append_assoc, length-append}
+use Rattle.std.specs.List.{list_all, enumerate_from}
 use Rattle.std.specs.Io.KnownBytes.{IsAtEnd}
 use Rattle.std.proofs.lemmas.Bool.Decides.{nat_tests}
 use Rattle.std.proofs.lemmas.List.{length-map}
@@ -8,7 +8,6 @@ use Rattle.std.proofs.lemmas.List.FromFn.{length-enumerate_from}
 use Rattle.outside_io.specs.Shelf.{ShelfState}
 use Rattle.plant_model.specs.Plant.{Plant, Sample}
 use Rattle.report_text.specs.Line.{Line, title, model, end, put_text, lines_text}
-use Rattle.report_text.specs.Laws.{is_feed}
 use Rattle.report_text.specs.Names.{is_model_name}
 use Rattle.report_text.specs.Ranges.{is_in_range, is_model_index, is_sample_number}
 use Rattle.report_rules.specs.Lines.{head_lines}

@@ -2,13 +2,12 @@
 use Rattle.std.proofs.Common.{◌≡◌, ℕ, ◌+◌, ◌-◌, ◌<◌, ◌≤◌, List, [], ◌∷◌, ◌++◌, length, take, drop, Option, Some, None, refl, sym, ap, ◌∙◌, arith, subst, append-nil, append_assoc, length-append}
 use Rattle.std.proofs.Math.Seq.{drop-append_seam, take-append_seam}
 use Rattle.std.proofs.Math.ListN.{drop_of_length-le}
-use Rattle.std.proofs.lemmas.List.{length-drop}
 use Rattle.std.specs.Prelude.{slice_range, IfSome}
 use Rattle.outside_io.specs.Shelf.{ShelfState}
 use Rattle.farkas_check.specs.Certificate.{Certificate}
 use Rattle.report_rules.specs.Replay.{with_feeds, IsOffer, IsOfferIn}
-use Rattle.cert_replay.specs.Window.{left_in, HasUnread, ReadsAhead, LinesStand, LinesStop, TakesLines}
-use Rattle.cert_replay.specs.Offers.{ModelStands, ModelStops, TakesModel, many_lines}
+use Rattle.cert_replay.specs.Window.{left_in, ReadsAhead, LinesStand, TakesLines}
+use Rattle.cert_replay.specs.Offers.{TakesModel, many_lines}
 use Rattle.cert_replay.specs.declared.window.Window.{Window}
 use Rattle.cert_replay.proofs.Taken.{stand-more, stand-longer, stop-longer, stop-more, stop-sooner, stand-long, ahead-none}
 

@@ -1,11 +1,11 @@
 -- A piece that is read behind what a window has left.
-use Rattle.std.proofs.Common.{◌≡◌, ℕ, ◌+◌, ◌-◌, ◌≤◌, List, [], ◌∷◌, ◌++◌, length, take, drop, Option, Some, None, Result, Ok, refl, sym, ap, ◌∙◌, arith, append_assoc, length-append, append-nil}
+use Rattle.std.proofs.Common.{◌≡◌, ℕ, ◌+◌, ◌-◌, ◌≤◌, List, [], ◌++◌, length, take, drop, Option, Some, None, Ok, refl, sym, ap, ◌∙◌, arith, append_assoc}
 use Rattle.std.specs.Io.KnownBytes.{Consumes, IsAtEnd}
 use Rattle.std.proofs.lemmas.List.{take-append-le, drop-append-le, length-take-le, length-drop}
 use Rattle.std.proofs.Math.Seq.{take-append-add}
 use Rattle.std.proofs.lemmas.List.{drop-take}
 use Rattle.outside_io.specs.Shelf.{ShelfState, Reads}
-use Rattle.cert_replay.specs.Window.{left_in, HasUnread, ReadsAhead}
+use Rattle.cert_replay.specs.Window.{left_in, ReadsAhead}
 use Rattle.cert_replay.specs.declared.window.Window.{Window}
 
 -- what is left goes on with the piece

@@ -1,24 +1,24 @@
 -- One sample more of a report that is replayed.
-use Rattle.std.proofs.Common.{◌≡◌, inl, inr, ℕ, zero, suc, ◌+◌, ◌^◌, ◌<◌, ◌≤◌, Bool, true, List, [], ◌∷◌, ◌++◌, length, map, flat_map, take, get_or, Option, Some, None, refl, sym, ap, ◌∙◌, arith, subst, append-nil, append_assoc, length-append}
+use Rattle.std.proofs.Common.{◌≡◌, inl, inr, ℕ, zero, suc, ◌+◌, ◌^◌, ◌<◌, ◌≤◌, Bool, true, List, [], ◌∷◌, ◌++◌, length, map, flat_map, Option, refl, sym, ap, ◌∙◌, arith, subst, append-nil, append_assoc, length-append}
 use Rattle.std.specs.List.{All, list_all, count_by}
 use Rattle.std.proofs.lemmas.List.{length-map}
 use Rattle.outside_io.specs.Shelf.{ShelfState}
 use Rattle.farkas_check.specs.Certificate.{Certificate}
 use Rattle.plant_model.specs.Plant.{Plant, Sample}
-use Rattle.observer_step.specs.Answers.{any_justified, zonotope_observer}
-use Rattle.model_bank.specs.Answers.{ModelAnswer, SampleAnswer, sample_answer, answers_from, live_after}
+use Rattle.observer_step.specs.Answers.{zonotope_observer}
+use Rattle.model_bank.specs.Answers.{SampleAnswer, sample_answer}
 use Rattle.model_bank.specs.Bank.{Bank, BankStands}
 use Rattle.model_bank.specs.Stepping.{TakesOffers, Refusal, RefusesOffer}
 use Rattle.model_bank.specs.Seen.{model_seen, sample_seen, refusal_with}
 use Rattle.model_bank.specs.declared.record.ModelRec.{ModelRec}
 use Rattle.model_bank.specs.declared.record.SampleRec.{SampleRec}
 use Rattle.model_bank.specs.declared.record.Refused.{Refused}
-use Rattle.report_text.specs.Line.{Line, sample, title, lines_text, put_text}
+use Rattle.report_text.specs.Line.{Line, title, lines_text}
 use Rattle.report_text.specs.Laws.{is_feed}
 use Rattle.report_text.specs.Ranges.{is_in_range}
 use Rattle.report_rules.specs.Lines.{head_lines, sample_lines, model_lines, pred_lines}
 use Rattle.report_rules.specs.Report.{Choice, samples_lines, lives_before}
-use Rattle.report_rules.specs.Replay.{AreFew, Replayed, watch, lines_so_far, chosen_at, DepartsAt, Takes, TakesEnough}
+use Rattle.report_rules.specs.Replay.{watch, lines_so_far, chosen_at, DepartsAt, TakesEnough}
 use Rattle.report_rules.proofs.Chosen.{length-lives_before}
 use Rattle.report_rules.proofs.Placed.{length-allowed, length-preds}
 use Rattle.report_rules.proofs.Replays.{replayed-lives, lines-longer, replayed-more, sample-departs}
@@ -27,10 +27,9 @@ use Rattle.report_rules.proofs.Ranged.{CanBePrinted, refused_lines-ranged}
 use Rattle.cert_replay.specs.Window.{left_in, HasUnread, ReadsAhead, PartsBehind, TakesText, DepartsFrom, DepartsBehind}
 use Rattle.cert_replay.specs.Offers.{AreCountsOf, TakesSample, lines_of}
 use Rattle.cert_replay.specs.Checked.{AreModels, Checked}
-use Rattle.cert_replay.specs.declared.counts.LineCounts.{LineCounts}
 use Rattle.cert_replay.specs.declared.replay.Replay.{Replay}
 use Rattle.cert_replay.specs.declared.window.Window.{Window}
-use Rattle.cert_replay.proofs.Departing.{Taken, FirstOther, first-other, feeds-lines}
+use Rattle.cert_replay.proofs.Departing.{Taken, first-other, feeds-lines}
 use Rattle.cert_replay.proofs.Samples.{length-models, length-sample, lines_of-front, sample-ranged}
 
 -- the intervals of records can be printed

@@ -1,5 +1,5 @@
 -- What a check says of its files.
-use Rattle.std.proofs.Common.{◌≡◌, ◌≢◌, ◌⊎◌, inl, inr, ℕ, is_none, List, [], ◌∷◌, ◌++◌, Option, Some, None, IfSome, Result, Ok, Err, IfErr, refl, sym, ap, ◌∙◌, subst}
+use Rattle.std.proofs.Common.{◌≡◌, ℕ, List, [], ◌++◌, Option, Some, None, IfSome, Result, Ok, Err, IfErr, refl, sym, subst}
 use Rattle.model_file.specs.Bank.{Models}
 use Rattle.model_file.specs.ModelFile.{models_of}
 use Rattle.model_bank.specs.Bank.{plants_in, names_in}

@@ -1,23 +1,19 @@
 -- The lines of a sample: how many there are, and that they are in range.
-use Rattle.std.proofs.Common.{◌≡◌, ℕ, ◌+◌, ◌^◌, ◌<◌, ◌≤◌, ◌==◌, nat_lt, nat_le, Bool, true, false, not, ◌||◌, ◌&&◌, List, [], ◌∷◌, ◌++◌, length, map, flat_map, Option, Some, None, is_none, if◌then◌else◌, refl, sym, ap, ◌∙◌, arith, subst, append-nil, length-append}
+use Rattle.std.proofs.Common.{◌≡◌, ℕ, ◌+◌, ◌^◌, ◌<◌, ◌≤◌, ◌==◌, nat_lt, nat_le, Bool, true, false, ◌&&◌, List, [], ◌∷◌, ◌++◌, length, flat_map, Option, Some, None, if◌then◌else◌, refl, ap, ◌∙◌, arith, length-append}
 use Rattle.std.specs.List.{All, list_all}
 use Rattle.std.proofs.lemmas.Bool.Decides.{nat_tests}
 use Rattle.std.proofs.lemmas.List.Folds.{list_all-append}
-use Rattle.std.proofs.lemmas.Grind.{flat_map-append}
 use Rattle.farkas_check.specs.Certificate.{Certificate}
 use Rattle.isolate_core.specs.Verdict.{possible_from, possible_models, verdict_of}
 use Rattle.isolate_core.specs.declared.verdict.Verdict.TheVariants.{Several, Fault}
 use Rattle.plant_model.specs.Plant.{Plant, Sample}
-use Rattle.observer_step.specs.Answers.{zonotope_observer, any_justified, answer_with}
-use Rattle.model_bank.specs.Answers.{ModelAnswer, answers_from, all_allowed, live_after, sample_answer}
-use Rattle.model_bank.specs.Stepping.{Refusal, RefusesOffer}
-use Rattle.report_text.specs.Line.{Line, sample, possible, verdict}
+use Rattle.observer_step.specs.Answers.{zonotope_observer, any_justified}
+use Rattle.model_bank.specs.Answers.{answers_from, all_allowed, live_after, sample_answer}
+use Rattle.report_text.specs.Line.{possible, verdict}
 use Rattle.report_text.specs.Ranges.{is_in_range, is_model_index, is_sample_number, is_verdict, rise_from}
-use Rattle.report_rules.specs.Lines.{model_lines, sample_lines, pred_lines}
-use Rattle.report_rules.specs.Report.{lives_before}
+use Rattle.report_rules.specs.Lines.{model_lines, sample_lines}
 use Rattle.report_rules.specs.Replay.{AreFew, count_of}
-use Rattle.report_rules.proofs.Placed.{both, and-true, length-model, length-preds, answer_at}
-use Rattle.report_rules.proofs.Offered.{refused_lines}
+use Rattle.report_rules.proofs.Placed.{both, and-true, length-model, answer_at}
 use Rattle.report_rules.proofs.Ranged.{CanBePrinted, models-ranged}
 use Rattle.cert_replay.specs.Offers.{lines_of}
 

@@ -1,16 +1,16 @@
 -- The offers that are read in the lines of a sample, model by model.
-use Rattle.std.proofs.Common.{◌≡◌, ◌≢◌, ◌⊎◌, inl, inr, ℕ, zero, suc, ◌+◌, ◌-◌, ◌*◌, ◌<◌, ◌≤◌, Bool, true, false, List, [], ◌∷◌, ◌++◌, length, map, drop, get_or, Option, Some, None, Result, Ok, Err, OnOk, is_some, if◌then◌else◌, refl, sym, ap, ◌∙◌, arith, subst, append-nil, append_assoc, length-append, drop-cons}
-use Rattle.std.specs.List.{list_all, All}
+use Rattle.std.proofs.Common.{◌≡◌, inl, inr, ℕ, suc, ◌+◌, ◌*◌, ◌<◌, ◌≤◌, Bool, true, false, List, [], ◌∷◌, ◌++◌, length, drop, get_or, Option, Some, None, Result, Ok, Err, OnOk, refl, sym, ap, ◌∙◌, arith, subst, append-nil, append_assoc, length-append, drop-cons}
+use Rattle.std.specs.List.{list_all}
 use Rattle.std.proofs.Math.ListN.{drop_of_length-le, get_or-map}
 use Rattle.std.proofs.lemmas.List.{length-map, drop-append-le, length-drop}
 use Rattle.std.proofs.lemmas.List.Folds.{list_all-append}
 use Rattle.outside_io.specs.Shelf.{ShelfState}
 use Rattle.farkas_check.specs.Certificate.{Certificate}
 use Rattle.plant_model.specs.Plant.{Plant}
-use Rattle.report_rules.specs.Replay.{with_feeds, is_short_line, IsOffer, OffersAre, TakesEnough, Takes, count_of}
+use Rattle.report_rules.specs.Replay.{with_feeds, is_short_line, IsOffer, OffersAre, TakesEnough, count_of}
 use Rattle.report_rules.proofs.Placed.{and-true}
-use Rattle.cert_replay.specs.Window.{left_in, HasUnread, ReadsAhead, LinesStand, LinesStop, TakesLines}
-use Rattle.cert_replay.specs.Offers.{AreCountsOf, lines_of, many_lines, ModelStands, ModelStops, TakesModel, TakesIfLive, TakesFrom, TakesModels, AddsOffers, TakesSample}
+use Rattle.cert_replay.specs.Window.{left_in, HasUnread, ReadsAhead, TakesLines}
+use Rattle.cert_replay.specs.Offers.{lines_of, many_lines, TakesModel, TakesIfLive, TakesModels, AddsOffers, TakesSample}
 use Rattle.cert_replay.specs.declared.counts.LineCounts.{LineCounts}
 use Rattle.cert_replay.specs.declared.window.Window.{Window}
 use Rattle.cert_replay.proofs.Taken.{stand-longer, stand-unread, stand-long, feeds-append}

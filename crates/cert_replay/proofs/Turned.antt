@@ -1,5 +1,5 @@
 -- The turns of a check over the rows of a telemetry.
-use Rattle.std.proofs.Common.{◌≡◌, ◌≢◌, ℕ, ◌+◌, ◌^◌, ◌<◌, ◌≤◌, Bool, true, false, is_none, List, [], ◌∷◌, ◌++◌, length, Option, Some, None, IfSome, Result, Ok, Err, IfErr, IfOk, OnOk, refl, sym, ap, ◌∙◌, subst, arith, append_assoc, append-nil, length-append}
+use Rattle.std.proofs.Common.{◌≡◌, ◌≢◌, ℕ, ◌+◌, true, false, is_none, List, [], ◌∷◌, ◌++◌, length, Option, Some, None, IfSome, Result, Ok, Err, IfErr, IfOk, OnOk, refl, sym, ap, ◌∙◌, subst, append_assoc, append-nil}
 use Rattle.plant_model.specs.Plant.{Plant, Sample}
 use Rattle.outside_io.specs.Shelf.{SlotState, ShelfState}
 use Rattle.telem_csv.specs.Columns.{Columns}
@@ -13,7 +13,7 @@ use Rattle.input_files.proofs.Streams.{told-then}
 use Rattle.monitor_run.specs.Rows.{behind}
 use Rattle.monitor_run.proofs.Turns.{told-some, told-same}
 use Rattle.report_text.specs.Line.{end, put_text}
-use Rattle.report_rules.specs.Replay.{watch, Replayed, Satisfies, DepartsAt, lines_so_far}
+use Rattle.report_rules.specs.Replay.{watch, Satisfies, DepartsAt}
 use Rattle.report_rules.proofs.Departs.{end-satisfies, end-departs, behind-departs, refused-satisfies}
 use Rattle.cert_replay.specs.Checked.{AreModels, Checked, DepartsInSample}
 use Rattle.cert_replay.specs.Ends.{SaysOfChecked, EndDeparts}

@@ -1,13 +1,9 @@
 -- A check in the middle of its telemetry.
-use Rattle.std.specs.Prelude.{◌≡◌, ℕ, ◌+◌, ◌*◌, ◌^◌, ◌<◌, ◌≤◌, Bool, List, [], ◌∷◌, ◌++◌, length}
+use Rattle.std.specs.Prelude.{◌≡◌, ℕ, ◌+◌, ◌*◌, ◌≤◌, Bool, List, [], ◌∷◌, ◌++◌, length}
 use Rattle.std.specs.List.{All}
-use Rattle.outside_io.specs.Causes.{Rose}
 use Rattle.outside_io.specs.Shelf.{ShelfState}
 use Rattle.plant_model.specs.Plant.{Plant, Sample}
-use Rattle.telem_csv.specs.Rows.{Rows}
 use Rattle.model_bank.specs.Bank.{BankStands}
-use Rattle.report_text.specs.Names.{is_model_name}
-use Rattle.report_rules.specs.Lines.{head_lines}
 use Rattle.report_rules.specs.Report.{Choice, lives_before}
 use Rattle.report_rules.specs.Replay.{AreFew, Replayed, watch, lines_so_far, DepartsAt}
 use Rattle.cert_replay.specs.Lines.{room}

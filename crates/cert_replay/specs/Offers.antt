@@ -5,7 +5,7 @@ use Rattle.farkas_check.specs.Certificate.{Certificate, certificate_of}
 use Rattle.farkas_check.specs.declared.certificate.Cert.{Cert}
 use Rattle.plant_model.specs.Plant.{Plant}
 use Rattle.outside_io.specs.Shelf.{ShelfState}
-use Rattle.report_rules.specs.Replay.{with_feeds, is_short_line, HasNoLine, IsOffer, OffersAre, Takes, TakesEnough, count_of}
+use Rattle.report_rules.specs.Replay.{with_feeds, is_short_line, IsOffer, OffersAre, Takes, TakesEnough, count_of}
 use Rattle.cert_replay.specs.Window.{left_in, HasUnread, LinesStand, LinesStop}
 use Rattle.cert_replay.specs.declared.counts.LineCounts.{LineCounts}
 use Rattle.cert_replay.specs.declared.window.Window.{Window}

@@ -1,5 +1,5 @@
 -- The report as far as it was read and is not compared yet.
-use Rattle.std.specs.Prelude.{◌≡◌, ◌≢◌, ℕ, ◌+◌, ◌*◌, ◌<◌, ◌≤◌, true, List, ◌∷◌, ◌++◌, length, drop, take, Option, Some, None, slice_range}
+use Rattle.std.specs.Prelude.{◌≡◌, ◌≢◌, ℕ, ◌+◌, ◌*◌, ◌<◌, ◌≤◌, true, List, ◌∷◌, ◌++◌, length, drop, Option, Some, None, slice_range}
 use Rattle.std.specs.List.{list_all, count_by}
 use Rattle.outside_io.specs.Shelf.{ShelfState}
 use Rattle.report_text.specs.Laws.{is_feed}

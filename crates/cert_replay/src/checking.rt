@@ -126,7 +126,11 @@ fn all_possible(models: usize) -> SampleRec
 }
 
 /// Compares the title and the names of the models.
-fn check_head<F: Shelf>(window: &mut Window, shelf: &mut F, models: &Bank0) -> Result<(), CheckFault>
+fn check_head<F: Shelf>(
+    window: &mut Window,
+    shelf: &mut F,
+    models: &Bank0,
+) -> Result<(), CheckFault>
     requires attached { ((F.state shelf.old).slot 2).attached ≡ true }
     requires begins { window.old.lines ≡ 0 }
     ensures stands { OnOk result (AreNamed (names_in models.now) → (bytes : List ℕ) → HasUnread window.old (F.state shelf.old) bytes
@@ -173,7 +177,11 @@ fn check_rows<F: Shelf>(
 }
 
 /// Compares the last line, after so many samples; nothing may stand behind it.
-fn check_end<F: Shelf>(window: &mut Window, shelf: &mut F, samples: u64) -> Result<Accepted, CheckFault>
+fn check_end<F: Shelf>(
+    window: &mut Window,
+    shelf: &mut F,
+    samples: u64,
+) -> Result<Accepted, CheckFault>
     requires attached { ((F.state shelf.old).slot 2).attached ≡ true }
     requires counted { window.old.lines + room + 1 < 2 ^ 64 }
     requires few { samples < 2 ^ 63 }

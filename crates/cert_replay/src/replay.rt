@@ -29,7 +29,11 @@ impl Replay {
     ghost use Rattle.cert_replay.specs.Checked.{AreModels, Checked, IsReady, DepartsInSample};
 
     /// Takes the lines of a sample, judges every live model by what they offer for it, and compares them with what follows.
-    pub fn check_sample<F: Shelf>(&mut self, shelf: &mut F, sample: &Sample) -> Result<(), CheckFault>
+    pub fn check_sample<F: Shelf>(
+        &mut self,
+        shelf: &mut F,
+        sample: &Sample,
+    ) -> Result<(), CheckFault>
         requires attached { ((F.state shelf.old).slot 2).attached ≡ true }
         requires inputs { length sample.now.u.items ≡ self.old.bank.inputs }
         requires outputs { length sample.now.y.items ≡ self.old.bank.outputs }

@@ -104,7 +104,11 @@ impl Window {
     }
 
     /// Takes the line at this place, and says where it ends behind its line feed; none where no short line stands there.
-    fn take_line<F: Shelf>(&mut self, shelf: &mut F, from: usize) -> Result<Option<usize>, CheckFault>
+    fn take_line<F: Shelf>(
+        &mut self,
+        shelf: &mut F,
+        from: usize,
+    ) -> Result<Option<usize>, CheckFault>
         requires attached { ((F.state shelf.old).slot 2).attached ≡ true }
         requires place { from ≤ length (left_in self.old) }
         requires room { from + most_line ≤ most_line * most_lines }

@@ -1,4 +1,4 @@
-use Rattle.std.proofs.Common.{◌≡◌, ◌+◌, ◌≤◌, length, Some, ap, sym, ◌∙◌, arith, subst}
+use Rattle.std.proofs.Common.{◌≡◌, ◌+◌, ◌≤◌, length, Some, arith, subst}
 use Rattle.std.proofs.lemmas.List.{length-map}
 use Rattle.outside_io.proofs.Fronts.{on-ok}
 use Rattle.model_file.specs.Bank.{Named}

@@ -1,4 +1,4 @@
-use Rattle.std.proofs.Common.{◌≡◌, ◌++◌, Some, sym, ap, ◌∙◌, arith}
+use Rattle.std.proofs.Common.{◌++◌, ap, ◌∙◌, arith}
 use Rattle.std.proofs.lemmas.Result.{err_from_is_err_and}
 use Rattle.outside_io.specs.Shelf.{SlotState}
 use Rattle.telem_csv.specs.Cutter.{rows_owed}
@@ -17,7 +17,7 @@ returns-clause-says g c = λ named.
     let behind = g.F.Shelf.state c.find_header.new.shelf in
     where-told (before.file c.args.report.now) _ (λ bytes told.
     let report = ap (λ (x : SlotState). x.rest) (c.find_header.ensures.kept.others.slots 2 (omega arith) (omega arith))
-        ∙ c.in_ok-attach.ensures.here.begins ∙ c.in-Ok.ensures.others.files c.args.report.now ∙ told in
+    ∙ c.in_ok-attach.ensures.here.begins ∙ c.in-Ok.ensures.others.files c.args.report.now ∙ told in
     let telemetry = ap (λ (x : SlotState). x.rest) (c.in_ok-attach.ensures.others.slots 1 (omega arith) (omega arith)) ∙ c.in-Ok.ensures.here.begins in
     with-rows ms (λ files. SaysOfReport c.check_report.result files bytes) (before.file c.args.telemetry.now) (both.slot 1).rest (behind.slot 1).rest telemetry
     (λ r. rows_owed c.in_ok-head.head c.find_header.new.stream.cutter (left_of c.find_header.new.stream ++ r))

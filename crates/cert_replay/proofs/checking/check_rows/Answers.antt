@@ -1,15 +1,15 @@
-use Rattle.std.proofs.Common.{◌≡◌, ℕ, ◌≤◌, ◌+◌, List, [], ◌∷◌, ◌++◌, true, refl, sym, ap, ◌∙◌, arith, rules, subst}
+use Rattle.std.proofs.Common.{◌≡◌, [], ◌∷◌, ◌++◌, true, refl, sym, ap, ◌∙◌, arith, rules, subst}
 use Rattle.std.proofs.lemmas.Result.{err_from_is_err_and}
 use Rattle.outside_io.specs.Shelf.{SlotState}
 use Rattle.plant_model.specs.Seen.{sample_of}
 use Rattle.telem_csv.specs.Cutter.{rows_owed}
 use Rattle.input_files.specs.Left.{left_of}
-use Rattle.input_files.specs.Stream.{BothTold, IsEndedAt, with_sample}
+use Rattle.input_files.specs.Stream.{BothTold, with_sample}
 use Rattle.std.specs.Io.KnownBytes.{IsAtEnd}
 use Rattle.report_text.specs.Line.{end, put_text}
-use Rattle.cert_replay.specs.Ends.{EndDeparts, SaysOfChecked}
+use Rattle.cert_replay.specs.Ends.{EndDeparts}
 use Rattle.cert_replay.specs.Faults.{IsSampleFault}
-use Rattle.cert_replay.specs.declared.fault.CheckFault.TheVariants.{Report, Telemetry}
+use Rattle.cert_replay.specs.declared.fault.CheckFault.TheVariants.{Telemetry}
 use Rattle.cert_replay.proofs.Turned.{no-turn, one-turn, turn-fault, turn-refused, turn-ends, unread-same, checked-same, if-err-at, if-ok-at, on-ok-at}
 use Rattle.cert_replay.proofs.checking.check_rows.Goals as goal
 
@@ -39,7 +39,7 @@ rows-preserved g c =
     let report : next.slot 2 ≡ before.slot 2 = c.next_row.ensures.kept.others.slots 2 (omega arith) (omega arith) in
     let telemetry : after.slot 1 ≡ next.slot 1 = c.check_sample.ensures.kept.others.slots 1 (omega arith) (omega arith) in
     let told = subst (λ (x : SlotState). BothTold (before.slot 1).rest x.rest
-        (λ r r'. rows_owed c.args.head.now c.rows.stream.cutter (left_of c.rows.stream ++ r) ≡ with_sample one (rows_owed c.args.head.now c.next_row.new.stream.cutter (left_of c.next_row.new.stream ++ r')))) (sym telemetry) row in
+    (λ r r'. rows_owed c.args.head.now c.rows.stream.cutter (left_of c.rows.stream ++ r) ≡ with_sample one (rows_owed c.args.head.now c.next_row.new.stream.cutter (left_of c.next_row.new.stream ++ r')))) (sym telemetry) row in
     record {
       going = going;
       ended = subst (λ (x : SlotState). c.next_row.new.stream.is_ended ≡ true → (left_of c.next_row.new.stream ≡ []) × IsAtEnd x.rest) (sym telemetry) c.next_row.ensures.ended;

@@ -1,10 +1,10 @@
-use Rattle.std.proofs.Common.{◌≡◌, ◌<◌, ◌∷◌, [], ◌++◌, length, sym, ◌∙◌, ap, arith, subst, option_map, OnOk, get_or, false, Option, ℕ}
+use Rattle.std.proofs.Common.{◌≡◌, ◌<◌, ◌∷◌, [], ◌++◌, length, sym, ◌∙◌, ap, arith, subst, option_map, get_or, false, Option, ℕ}
 use Rattle.std.proofs.lemmas.List.{length-map, map-append}
 use Rattle.outside_io.proofs.Fronts.{on-ok}
 use Rattle.farkas_check.specs.Certificate.{Certificate, certificate_of}
 use Rattle.model_bank.specs.Seen.{offers_seen}
-use Rattle.cert_replay.specs.Offers.{AddsOffers, TakesIfLive, offer_seen}
-use Rattle.cert_replay.proofs.Taking.{adds-closing, adds-model, ends-near, on-both}
+use Rattle.cert_replay.specs.Offers.{AddsOffers, TakesIfLive}
+use Rattle.cert_replay.proofs.Taking.{adds-closing, adds-model, on-both}
 use Rattle.cert_replay.proofs.Taken.{ahead-then}
 use Rattle.cert_replay.proofs.offers.+take_models.Goals as goal
 

@@ -1,4 +1,4 @@
-use Rattle.std.proofs.Common.{◌≡◌, ◌+◌, ◌-◌, ◌≤◌, length, Some, None, ap, arith, length-append, option_map}
+use Rattle.std.proofs.Common.{◌-◌, ◌≤◌, length, Some, None, ap, arith, length-append}
 use Rattle.std.specs.Prelude.{slice_range}
 use Rattle.farkas_check.specs.Certificate.{certificate_of}
 use Rattle.report_rules.specs.Replay.{IsOfferIn}

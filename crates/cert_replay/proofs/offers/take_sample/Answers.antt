@@ -1,4 +1,4 @@
-use Rattle.std.proofs.Common.{◌≡◌, [], ◌∷◌, ◌++◌, length, drop, Some, sym, ◌∙◌, ap, subst}
+use Rattle.std.proofs.Common.{◌≡◌, [], ◌++◌, length, drop, sym, ◌∙◌, ap, subst}
 use Rattle.model_bank.specs.Seen.{offers_seen}
 use Rattle.cert_replay.specs.Window.{left_in}
 use Rattle.cert_replay.specs.Offers.{TakesModels, TakesSample}

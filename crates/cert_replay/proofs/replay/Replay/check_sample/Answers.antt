@@ -1,6 +1,6 @@
-use Rattle.std.proofs.Common.{◌≡◌, ◌∷◌, ◌++◌, map, flat_map, ℕ, ◌<◌, ◌^◌, List, length, arith, refl, subst, sym, ap, ◌∙◌}
+use Rattle.std.proofs.Common.{◌≡◌, ◌∷◌, ◌++◌, map, flat_map, ℕ, List, length, arith, refl, subst, sym, ap, ◌∙◌}
 use Rattle.outside_io.proofs.Fronts.{on-ok}
-use Rattle.plant_model.specs.Plant.{Plant, Sample}
+use Rattle.plant_model.specs.Plant.{Plant}
 use Rattle.plant_model.specs.Seen.{sample_of}
 use Rattle.model_bank.specs.Seen.{offers_seen, sample_seen, model_seen, refusal_with}
 use Rattle.report_text.specs.Line.{sample, lines_text}
@@ -26,9 +26,9 @@ returns-in-Ok-clause-taken g c =
     let ahead = c.in_ok-offers.ensures.ahead in
     let takes : Checked names ps taken bytes r0 s0 → (ps : List Plant) → AreCountsOf r0.counts ps → (unread : List ℕ) → HasUnread r0.window s0 unread → TakesSample ps r0.last.possible.items (left_in w1) unread os =
     λ checked qs are u h.
-        let many : length c.deref.result.now ≡ c.models.result = ap length c.deref.ensures.0 ∙ possible-many names ps taken bytes r0 s0 models checked ∙ sym c.models.ensures.value in
-        let lives : c.deref-2.result.now ≡ r0.last.possible.items = c.deref-2.ensures.0 ∙ c.live_models-lives.ensures.same many ∙ c.deref.ensures.0 in
-        subst (λ ls. TakesSample qs ls (left_in w1) u os) lives (c.in_ok-offers.ensures.taken qs are u h) in
+    let many : length c.deref.result.now ≡ c.models.result = ap length c.deref.ensures.0 ∙ possible-many names ps taken bytes r0 s0 models checked ∙ sym c.models.ensures.value in
+    let lives : c.deref-2.result.now ≡ r0.last.possible.items = c.deref-2.ensures.0 ∙ c.live_models-lives.ensures.same many ∙ c.deref.ensures.0 in
+    subst (λ ls. TakesSample qs ls (left_in w1) u os) lives (c.in_ok-offers.ensures.taken qs are u h) in
     let all : TakesAnyOffers s os r0.bank (sample_seen c.step_with_into.new.earlier) c.step_with_into.new.self =
     subst (λ xs. TakesAnyOffers s (offers_seen xs) r0.bank (sample_seen c.step_with_into.new.earlier) c.step_with_into.new.self) c.deref-3.ensures.0 c.in-Ok.ensures.taken in
     sample-checked names ps taken bytes r0 s0 s1 w1 s os models checked ahead (takes checked) (omega (arith, checked.stands.count_is, c.requires.counted)) c.step_with_into.new.self c.step_with_into.new.earlier
@@ -46,9 +46,9 @@ returns-in-Ok-clause-departs g c =
     let ahead = c.in_ok-offers.ensures.ahead in
     let takes : Checked names ps taken bytes r0 s0 → (ps : List Plant) → AreCountsOf r0.counts ps → (unread : List ℕ) → HasUnread r0.window s0 unread → TakesSample ps r0.last.possible.items (left_in w1) unread os =
     λ checked qs are u h.
-        let many : length c.deref.result.now ≡ c.models.result = ap length c.deref.ensures.0 ∙ possible-many names ps taken bytes r0 s0 models checked ∙ sym c.models.ensures.value in
-        let lives : c.deref-2.result.now ≡ r0.last.possible.items = c.deref-2.ensures.0 ∙ c.live_models-lives.ensures.same many ∙ c.deref.ensures.0 in
-        subst (λ ls. TakesSample qs ls (left_in w1) u os) lives (c.in_ok-offers.ensures.taken qs are u h) in
+    let many : length c.deref.result.now ≡ c.models.result = ap length c.deref.ensures.0 ∙ possible-many names ps taken bytes r0 s0 models checked ∙ sym c.models.ensures.value in
+    let lives : c.deref-2.result.now ≡ r0.last.possible.items = c.deref-2.ensures.0 ∙ c.live_models-lives.ensures.same many ∙ c.deref.ensures.0 in
+    subst (λ ls. TakesSample qs ls (left_in w1) u os) lives (c.in_ok-offers.ensures.taken qs are u h) in
     let all : TakesAnyOffers s os r0.bank (sample_seen c.step_with_into.new.earlier) c.step_with_into.new.self =
     subst (λ xs. TakesAnyOffers s (offers_seen xs) r0.bank (sample_seen c.step_with_into.new.earlier) c.step_with_into.new.self) c.deref-3.ensures.0 c.in-Ok.ensures.taken in
     sample-other names ps taken bytes r0 s0 s1 w1 s os models checked ahead (takes checked) (omega (arith, checked.stands.count_is, c.requires.counted)) c.step_with_into.new.self c.step_with_into.new.earlier
@@ -65,15 +65,15 @@ returns-in-Err-clause-departs g c = λ names ps taken bytes models checked line 
     let ahead = c.in_ok-offers.ensures.ahead in
     let takes : Checked names ps taken bytes r0 s0 → (ps : List Plant) → AreCountsOf r0.counts ps → (unread : List ℕ) → HasUnread r0.window s0 unread → TakesSample ps r0.last.possible.items (left_in w1) unread os =
     λ checked qs are u h.
-        let many : length c.deref.result.now ≡ c.models.result = ap length c.deref.ensures.0 ∙ possible-many names ps taken bytes r0 s0 models checked ∙ sym c.models.ensures.value in
-        let lives : c.deref-2.result.now ≡ r0.last.possible.items = c.deref-2.ensures.0 ∙ c.live_models-lives.ensures.same many ∙ c.deref.ensures.0 in
-        subst (λ ls. TakesSample qs ls (left_in w1) u os) lives (c.in_ok-offers.ensures.taken qs are u h) in
+    let many : length c.deref.result.now ≡ c.models.result = ap length c.deref.ensures.0 ∙ possible-many names ps taken bytes r0 s0 models checked ∙ sym c.models.ensures.value in
+    let lives : c.deref-2.result.now ≡ r0.last.possible.items = c.deref-2.ensures.0 ∙ c.live_models-lives.ensures.same many ∙ c.deref.ensures.0 in
+    subst (λ ls. TakesSample qs ls (left_in w1) u os) lives (c.in_ok-offers.ensures.taken qs are u h) in
     let all : RefusesAnOffer s os r0.bank (refusal_with c.in-Err.refused c.step_with_into.new.earlier.models.items) =
     subst (λ xs. RefusesAnOffer s (offers_seen xs) r0.bank (refusal_with c.in-Err.refused c.step_with_into.new.earlier.models.items)) c.deref-3.ensures.0 c.in-Err.ensures.refused in
     let number = checked.stands.count_is in
     let at : c.count-k.result ≡ length taken = c.count-k.ensures ∙ number in
     let preds = pred_lines c.in-Err.refused.model c.in-Err.refused.preds.items in
     let front = subst (λ rs. DepartsBehind (lines_text (sample (length taken) ∷ flat_map model_lines (map model_seen rs) ++ preds)) w1 line) c.deref-in-Err.ensures.0
-        (subst (λ n. DepartsBehind (lines_text (sample n ∷ flat_map model_lines (map model_seen c.deref-in-Err.result.now) ++ preds)) w1 line) at (c.compare_refused.ensures.departs line e)) in
+    (subst (λ n. DepartsBehind (lines_text (sample n ∷ flat_map model_lines (map model_seen c.deref-in-Err.result.now) ++ preds)) w1 line) at (c.compare_refused.ensures.departs line e)) in
     refused-other names ps taken bytes r0 s0 s1 w1 s os models checked ahead (takes checked) (omega (arith, checked.stands.count_is, c.requires.counted)) c.step_with_into.new.earlier c.in-Err.refused
     (all ps taken (lives_before checked.choice (length ps) (length taken)) checked.stands) line front more is_whole

@@ -1,9 +1,8 @@
-use Rattle.std.proofs.Common.{[], ◌∷◌, refl, sym, ◌∙◌}
-use Rattle.outside_io.proofs.Fronts.{on-ok, on-err}
+use Rattle.std.proofs.Common.{refl, sym, ◌∙◌}
+use Rattle.outside_io.proofs.Fronts.{on-ok}
 use Rattle.model_bank.specs.Bank.{names_in}
-use Rattle.model_bank.specs.Seen.{sample_seen}
-use Rattle.report_text.specs.Line.{lines_text, end}
-use Rattle.report_rules.specs.Lines.{head_lines, sample_lines}
+use Rattle.report_text.specs.Line.{lines_text}
+use Rattle.report_rules.specs.Lines.{head_lines}
 use Rattle.cert_replay.proofs.Comparing.{made-text, takes-made, departs-made, if-err}
 use Rattle.cert_replay.proofs.window.Window.compare_head.Goals as goal
 

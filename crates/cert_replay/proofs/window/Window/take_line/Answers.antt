@@ -1,6 +1,5 @@
-use Rattle.std.proofs.Common.{◌≡◌, ◌-◌, ◌≤◌, false, drop, take, length, ap, ◌∙◌, sym, arith, rules, length-append}
+use Rattle.std.proofs.Common.{◌≡◌, ◌-◌, ◌≤◌, false, drop, take, length, ap, ◌∙◌, arith, rules, length-append}
 use Rattle.std.specs.List.{list_any}
-use Rattle.std.proofs.lemmas.Bool.Decides.{nat_tests}
 use Rattle.report_text.specs.Laws.{is_feed}
 use Rattle.cert_replay.specs.Lines.{most_line}
 use Rattle.cert_replay.specs.Window.{left_in}

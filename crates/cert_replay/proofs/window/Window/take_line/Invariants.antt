@@ -1,4 +1,4 @@
-use Rattle.std.proofs.Common.{◌≡◌, ◌-◌, ◌+◌, ◌≤◌, length}
+use Rattle.std.proofs.Common.{◌-◌, ◌+◌, ◌≤◌, length}
 use Rattle.input_files.specs.Stream.{ReadsOn}
 use Rattle.cert_replay.specs.Lines.{most_line}
 use Rattle.cert_replay.specs.Window.{left_in, ReadsAhead}

@@ -1,5 +1,5 @@
-use Rattle.std.proofs.Common.{◌≡◌, ◌+◌, ◌≤◌, length, ap, arith, rules, length-append}
-use Rattle.cert_replay.specs.Window.{left_in, LinesStand}
+use Rattle.std.proofs.Common.{◌+◌, ◌≤◌, length, ap, arith, rules, length-append}
+use Rattle.cert_replay.specs.Window.{left_in}
 use Rattle.cert_replay.proofs.Taken.{stand-longer, stand-more, stop-more, stop-sooner, ahead-then}
 use Rattle.cert_replay.proofs.window.Window.take_lines.Goals as goal
 

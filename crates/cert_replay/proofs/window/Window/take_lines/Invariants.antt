@@ -1,4 +1,4 @@
-use Rattle.std.proofs.Common.{◌≡◌, ◌≤◌, length}
+use Rattle.std.proofs.Common.{◌≤◌, length}
 use Rattle.input_files.specs.Stream.{ReadsOn}
 use Rattle.cert_replay.specs.Window.{left_in, ReadsAhead, LinesStand}
 use Rattle.cert_replay.proofs.window.Window.take_lines.Given as goal
