@@ -1,5 +1,6 @@
 -- What a run answers, from how it ended.
-use Rattle.std.proofs.Common.{◌≡◌, ◌≢◌, ◌⊎◌, ◌==◌, if◌then◌else◌, inl, inr, List, ℕ, Bool, true, false, Option, Some, None, IfSome, IsSome, Result, Ok, Err, refl, sym, ap, subst, length, arith}
+use Rattle.std.proofs.Common.{◌≡◌, ◌≢◌, ◌⊎◌, ◌+◌, ◌==◌, if◌then◌else◌, inl, inr, List, ℕ, Bool, true, false, Option, Some, None, IfSome, IsSome, Result, Ok, Err, refl, sym, ap, subst, length, arith}
+use Rattle.std.specs.Prelude.{is_some}
 use Rattle.outside_io.specs.Causes.{Rose}
 use Rattle.outside_io.specs.Shelf.{ShelfState}
 use Rattle.outside_io.specs.Sink.{SinkState, AppendsFront, Gains, GainsFront}
@@ -18,15 +19,18 @@ use Rattle.monitor_run.specs.declared.done.Done.{Done}
 use Rattle.monitor_run.specs.declared.done.RunFault.{RunFault}
 use Rattle.monitor_run.specs.declared.done.RunFault.TheVariants as run
 use Rattle.input_files.specs.Files.{Files, bad_model, bad_header, monitored, files_of, with_models, refused, model_refusal, telemetry_refusal, RunsThrough}
-use Rattle.input_files.specs.Told.{OnBytes, OnFile, OnFiles, AreRead}
+use Rattle.input_files.specs.Told.{OnBytes, OnFile, OnFiles, OnLeft, AreRead}
+use Rattle.input_files.specs.Whole.{TakesAtMost, most_model, most_piece}
 use Rattle.telem_csv.specs.Rows.{Rows}
+use Rattle.monitor_run.specs.InTime.{PutsInTime, lines_begun}
 use Rattle.monitor_run.specs.Reports.{report_of, report_of_rows, watch_of}
 use Rattle.monitor_run.specs.Outcome.{SaysOfModel, SaysOfFiles, PutsReport, PutsNothing, AsksModelFirst, AsksInOrder, ReadsFailed}
+use Rattle.monitor_run.proofs.Begun.{not-asked}
 use Rattle.zonomon_run.specs.Words.{asked_by, monitor}
 use Rattle.zonomon_run.specs.Ending.{status_of, text_of, Tells}
 use Rattle.zonomon_run.specs.declared.ending.Ending.TheVariants.{ReadModel, ReadTelemetry}
 use Rattle.zonomon_run.specs.Endings.{ending_of}
-use Rattle.zonomon_run.specs.Runs.{Outside, OnRun, OnNamed, IsAccepted, IsRunStatus, NoneRose, ModelUnread, TelemetryUnread, Monitors, report_text, TrueHulls, TrueExclusions, TrueMisses}
+use Rattle.zonomon_run.specs.Runs.{Outside, OnRun, OnNamed, IsAccepted, IsRunStatus, NoneRose, ModelUnread, TelemetryUnread, Monitors, GainsAllRead, report_text, TrueHulls, TrueExclusions, TrueMisses}
 
 pub on-bytes : (model telemetry : Option (List ℕ)) (P : List ℕ → List ℕ → Type 0) → ((m t : List ℕ) → P m t) → OnBytes model telemetry P
 on-bytes None telemetry P f = tt
@@ -38,6 +42,14 @@ both-say : (model telemetry : Option (List ℕ)) (A : List ℕ → Type 0) (B C 
 both-say None telemetry A B C f a b = tt
 both-say (Some m) None A B C f a b = tt
 both-say (Some m) (Some t) A B C f a b = f m t a b
+
+-- a claim on both files and on how many bytes are left, from another
+if-left : (model telemetry rest : Option (List ℕ)) (P Q : List ℕ → List ℕ → ℕ → Type 0) → ((m t : List ℕ) (left : ℕ) → P m t left → Q m t left)
+    → OnBytes model telemetry (λ m t. IfSome rest (λ r. P m t (length r))) → OnBytes model telemetry (λ m t. IfSome rest (λ r. Q m t (length r)))
+if-left None telemetry rest P Q f h = tt
+if-left (Some m) None rest P Q f h = tt
+if-left (Some m) (Some t) None P Q f h = tt
+if-left (Some m) (Some t) (Some r) P Q f h = f m t (length r) h
 
 -- a claim on what the words name
 pub on-run : (words : List (List ℕ)) (P : List ℕ → List ℕ → Type 0) (m t : List ℕ) → monitor m t ≡ asked_by words → P m t → OnRun words P
@@ -94,6 +106,12 @@ unread slot model telemetry before after (inr h) told nothing first = inr (recor
   failed = h.1;
   told = subst (λ slot. Tells (text_of (ending_of (run.Read slot))) before.err after.err) h.0 told;
 })
+
+-- where the telemetry was asked for, its slot is the one that could not be read
+is-telemetry : (slot : ℕ) (model telemetry : List ℕ) (before after : ShelfState) → ReadsFailed model telemetry before after slot → AsksModelFirst (Err (run.Read slot)) (after.slot 1).asked
+    → is_some (after.slot 1).asked ≡ true → slot ≡ 1
+is-telemetry slot model telemetry before after (inl h) first some = absurd (not-asked (after.slot 1).asked (first h.0) some)
+is-telemetry slot model telemetry before after (inr h) first some = h.0
 
 module _ (fault : RunFault) (model telemetry : List ℕ) (before after : Outside)
     (says_model : OnFile before.shelf model (SaysOfModel (Err fault))) (says_files : OnFiles before.shelf model telemetry (SaysOfFiles (Err fault)))
@@ -196,7 +214,9 @@ module _ (model telemetry : List ℕ) (before after : Outside) where
   module _ (fault : RunFault) (says_model : OnFile before.shelf model (SaysOfModel (Err fault))) (says_files : OnFiles before.shelf model telemetry (SaysOfFiles (Err fault)))
       (puts : OnFiles before.shelf model telemetry (λ f. PutsReport (report_of f) before.out (Err fault) after.out)) (nothing : PutsNothing before.out (Err fault) after.out)
       (reads : (slot : ℕ) → fault ≡ run.Read slot → ReadsFailed model telemetry before.shelf after.shelf slot) (writes : fault ≡ run.Write → Rose before.out.faults after.out.faults)
-      (asks : AsksInOrder model telemetry (Err fault) after.shelf) (told : Tells (text_of (ending_of fault)) before.err after.err) where
+      (asks : AsksInOrder model telemetry (Err fault) after.shelf) (told : Tells (text_of (ending_of fault)) before.err after.err)
+      (in_time : OnLeft before.shelf after.shelf model telemetry (λ m t left. PutsInTime (lines_begun m t) left before.out (Err fault) after.out))
+      (taken : TakesAtMost (most_model + most_piece) (before.shelf.file model) (after.shelf.slot 0)) (was_asked : (after.shelf.slot 1).attached ≡ true → is_some (after.shelf.slot 1).asked ≡ true) where
     refuses-model : OnFile before.shelf model (λ m. IsSome (model_refusal m) → ¬ Rose (before.shelf.slot 0).faults (after.shelf.slot 0).faults → (status fault ≡ 2) ⊎ (status fault ≡ 6))
     refuses-model = if-some (before.shelf.file model) _ _ (by fault refl) says_model
       where
@@ -234,16 +254,28 @@ module _ (model telemetry : List ℕ) (before after : Outside) where
       accepted = λ e. absurd (not-zero fault e);
       report = reported;
       front = all-front-of (before.shelf.file model) (before.shelf.file telemetry) before.out after.out (Err fault) puts;
+      in_time_read = λ e attached. let x = of-four fault e in all-read x.0 x.1 (was_asked attached) (in_time attached);
+      in_time_write = λ e. subst (λ g. OnLeft before.shelf after.shelf model telemetry (λ m t left. PutsInTime (lines_begun m t) left before.out (Err g) after.out)) (of-five fault e) in_time;
+      model_taken = taken;
       nothing = λ e. let x = of-two fault e in subst (λ g. PutsNothing before.out (Err g) after.out) x.1 nothing;
     }
       where
+        all-read : (slot : ℕ) → fault ≡ run.Read slot → is_some (after.shelf.slot 1).asked ≡ true
+            → OnBytes (before.shelf.file model) (before.shelf.file telemetry) (λ m t. IfSome (after.shelf.slot 1).rest (λ r. PutsInTime (lines_begun m t) (length r) before.out (Err fault) after.out))
+            → OnBytes (before.shelf.file model) (before.shelf.file telemetry) (λ m t. IfSome (after.shelf.slot 1).rest (λ r. GainsAllRead before.out after.out m t (length r)))
+        all-read slot is some = if-left (before.shelf.file model) (before.shelf.file telemetry) (after.shelf.slot 1).rest
+            (λ m t left. PutsInTime (lines_begun m t) left before.out (Err fault) after.out) (GainsAllRead before.out after.out)
+            (λ m t left h. subst (λ g. PutsInTime (lines_begun m t) left before.out (Err g) after.out) is h
+            (is-telemetry slot model telemetry before.shelf after.shelf (reads slot is) (subst (λ g. AsksModelFirst (Err g) (after.shelf.slot 1).asked) is asks.first) some))
+
         reported : (status fault ≡ 0) ⊎ (status fault ≡ 3) → OnFiles before.shelf model telemetry (λ f. Gains (report_text f) before.out after.out)
         reported (inl e) = absurd (not-zero fault e)
         reported (inr e) = let x = of-three fault e in subst (λ g. OnFiles before.shelf model telemetry (λ f. PutsReport (report_of f) before.out (Err g) after.out)) x.1 puts
 
   -- a run that came to the end of its telemetry
   module _ (done : Done) (says_model : OnFile before.shelf model (λ m. model_refusal m ≡ None)) (says_files : OnFiles before.shelf model telemetry (λ f. RunsThrough f done.samples))
-      (puts : OnFiles before.shelf model telemetry (λ f. Gains (report_text f) before.out after.out)) (read : AreRead after.shelf) (asks : AsksInOrder model telemetry (Ok done) after.shelf) where
+      (puts : OnFiles before.shelf model telemetry (λ f. Gains (report_text f) before.out after.out)) (read : AreRead after.shelf) (asks : AsksInOrder model telemetry (Ok done) after.shelf)
+      (taken : TakesAtMost (most_model + most_piece) (before.shelf.file model) (after.shelf.slot 0)) where
     through-accepted : (f : Files) → RunsThrough f done.samples → IsAccepted f
     through-accepted (bad_model x) h = h
     through-accepted (bad_header x) h = h
@@ -279,6 +311,9 @@ module _ (model telemetry : List ℕ) (before after : Outside) where
       accepted = λ e. on-both _ _ (λ m t h. through-accepted (files_of m t) h) says_files;
       report = λ e. puts;
       front = all-front-of (before.shelf.file model) (before.shelf.file telemetry) before.out after.out (Ok done) puts;
+      in_time_read = λ e. absurd (omega arith);
+      in_time_write = λ e. absurd (omega arith);
+      model_taken = taken;
       nothing = λ e. absurd (omega arith);
     }
 

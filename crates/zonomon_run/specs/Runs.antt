@@ -1,5 +1,5 @@
 -- What a run does with files that the shelf tells.
-use Rattle.std.specs.Prelude.{◌≡◌, ◌⊎◌, ℕ, List, Some, None, IsSome}
+use Rattle.std.specs.Prelude.{◌≡◌, ◌⊎◌, ℕ, ◌+◌, List, Some, None, IsSome}
 use Rattle.outside_io.specs.Causes.{Rose}
 use Rattle.outside_io.specs.Shelf.{ShelfState}
 use Rattle.outside_io.specs.Sink.{SinkState, Gains, GainsFront}
@@ -9,8 +9,9 @@ use Rattle.model_bank.specs.Bank.{plants_in}
 use Rattle.report_text.specs.Line.{lines_text}
 use Rattle.report_rules.specs.Claims.{HullsHold, ExclusionsHold, MissesTold, plant_at}
 use Rattle.input_files.specs.Files.{Files, bad_model, bad_header, monitored, model_refusal, telemetry_refusal}
-use Rattle.input_files.specs.Told.{OnFile, OnFiles, AreRead, ReadFailed}
-use Rattle.input_files.specs.Whole.{IsAskedAtMost}
+use Rattle.input_files.specs.Told.{OnFile, OnFiles, OnLeft, AreRead, ReadFailed}
+use Rattle.input_files.specs.Whole.{IsAskedAtMost, TakesAtMost, most_model, most_piece}
+use Rattle.monitor_run.specs.InTime.{lines_begun, GainsAtLeast}
 use Rattle.monitor_run.specs.Reports.{report_of, report_of_rows}
 use Rattle.zonomon_run.specs.Words.{asked_by, monitor, checks, helps, later, faulty}
 use Rattle.zonomon_run.specs.Ending.{Tells, text_of, usage_lines, model_refusal_text, telemetry_refusal_text}
@@ -57,6 +58,18 @@ GainsReport before after files = Gains (report_text files) before after
 -- the output gained a front of the report of files that say this
 abbrev pub GainsReportFront : SinkState → SinkState → Files → Type 0
 GainsReportFront before after files = GainsFront (report_text files) before after
+
+-- the lines that are due for the header and the rows that have ended in a telemetry without its last k bytes
+abbrev pub begun_text : (model telemetry : List ℕ) → ℕ → List ℕ
+begun_text m t k = lines_text (lines_begun m t k)
+
+-- the output gained exactly the lines of all that was read of the telemetry, where so many bytes of it are left
+abbrev pub GainsAllRead : SinkState → SinkState → (model telemetry : List ℕ) → ℕ → Type 0
+GainsAllRead before after m t left = Gains (begun_text m t left) before after
+
+-- the output gained at least the lines of what was read before the last piece and the byte in front of it
+abbrev pub GainsMostRead : SinkState → SinkState → (model telemetry : List ℕ) → ℕ → Type 0
+GainsMostRead before after m t left = GainsAtLeast (begun_text m t (left + most_piece + 1)) before after
 
 -- no file is refused
 abbrev pub IsAccepted : Files → Type 0
@@ -126,6 +139,9 @@ pub record Monitors (model telemetry : List ℕ) (before : Outside) (result : �
   pub accepted : result ≡ 0 → OnFiles before.shelf model telemetry IsAccepted
   pub report : (result ≡ 0) ⊎ (result ≡ 3) → OnFiles before.shelf model telemetry (GainsReport before.out after.out)
   pub front : OnFiles before.shelf model telemetry (GainsReportFront before.out after.out)
+  pub in_time_read : result ≡ 4 → OnLeft before.shelf after.shelf model telemetry (GainsAllRead before.out after.out)
+  pub in_time_write : result ≡ 5 → OnLeft before.shelf after.shelf model telemetry (GainsMostRead before.out after.out)
+  pub model_taken : TakesAtMost (most_model + most_piece) (before.shelf.file model) (after.shelf.slot 0)
   pub nothing : result ≡ 2 → after.out.held ≡ before.out.held
 
 -- a text was put, or a front of it with a cause
