@@ -51,7 +51,7 @@ pub fn check<F: Shelf>(
     ensures says_model { OnFile (F.state shelf.old) model.now (SaysOfModel result) }
     ensures says { OnReport (F.state shelf.old) model.now telemetry.now report.now (SaysOfReport result) }
 
-    // Where the report is refused, no more of the telemetry was read than that needs, and one piece at most behind it.
+    // Where the report is refused, the telemetry was read to the line that the refused one needs, and one piece at most past it.
     ensures in_time { OnReportLeft (F.state shelf.old) (F.state shelf.new) model.now telemetry.now report.now
         (λ m t left. RefusesInTime (lines_begun m t) left result) }
     ensures model_taken { TakesAtMost (most_model + most_piece) ((F.state shelf.old).file model.now) ((F.state shelf.new).slot 0) }

@@ -1,14 +1,13 @@
-use Rattle.std.proofs.Common.{subst, IfSome}
+use Rattle.std.proofs.Common.{◌≡◌, ◌+◌, true, length, IfSome, sym, subst}
 use Rattle.input_files.specs.Files.{files_with}
 use Rattle.std.proofs.lemmas.Result.{err_from_is_err_and}
 use Rattle.cert_replay.specs.Outcome.{SaysOfReport}
 use Rattle.cert_replay.proofs.Said.{with-named, accepted-said, model-said, model-ends}
-use Rattle.std.proofs.Common.{◌+◌, ◌≡◌, true, length, sym}
 use Rattle.input_files.specs.Ended.{without_last, begun_with}
 use Rattle.input_files.specs.Whole.{TakesAtMost, most_model, most_piece}
 use Rattle.monitor_run.specs.InTime.{begun_of}
-use Rattle.cert_replay.specs.Ahead.{RefusesInTime}
 use Rattle.monitor_run.proofs.Opened.{if-some}
+use Rattle.cert_replay.specs.Ahead.{RefusesInTime}
 use Rattle.cert_replay.proofs.Ahead.{left-last, with-models-in_time, no-models-in_time}
 use Rattle.cert_replay.proofs.checking.check.Goals as goal
 

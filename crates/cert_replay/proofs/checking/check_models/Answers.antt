@@ -4,13 +4,13 @@ use Rattle.outside_io.specs.Shelf.{SlotState}
 use Rattle.telem_csv.specs.Cutter.{rows_owed}
 use Rattle.input_files.specs.Files.{files_with}
 use Rattle.input_files.specs.Left.{left_of}
+use Rattle.input_files.specs.Stream.{stream_fault}
 use Rattle.monitor_run.proofs.Opened.{if-some, of-some, with-rows}
 use Rattle.cert_replay.specs.Outcome.{SaysOfReport}
 use Rattle.cert_replay.proofs.Said.{where-told, rows-said, report-said, opened-said, no-header-said}
 use Rattle.input_files.specs.Ended.{without_last, begun_with}
 use Rattle.monitor_run.specs.InTime.{begun_of}
 use Rattle.cert_replay.proofs.Ahead.{behind-header, no-header-in_time, no-report-in_time}
-use Rattle.input_files.specs.Stream.{stream_fault}
 use Rattle.cert_replay.proofs.checking.check_models.Goals as goal
 
 pub returns-clause-says : goal.returns-clause-says

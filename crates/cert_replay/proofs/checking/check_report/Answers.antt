@@ -1,4 +1,4 @@
-use Rattle.std.proofs.Common.{◌≡◌, ◌++◌, length, replicate, true, sym, ap, ◌∙◌, arith, subst}
+use Rattle.std.proofs.Common.{◌≡◌, [], ◌++◌, length, replicate, true, sym, ap, ◌∙◌, arith, subst}
 use Rattle.std.proofs.lemmas.List.{length-map}
 use Rattle.std.proofs.lemmas.Result.{err_from_is_err_and}
 use Rattle.outside_io.specs.Shelf.{SlotState}
@@ -11,9 +11,7 @@ use Rattle.std.specs.Prelude.{IfSome}
 use Rattle.cert_replay.specs.Ends.{SaysOfChecked}
 use Rattle.cert_replay.specs.Window.{HasUnread}
 use Rattle.cert_replay.proofs.Counted.{length-plants, are-models, begun-checked, head-fault, memory-checked}
-use Rattle.std.proofs.Common.{Err, []}
 use Rattle.monitor_run.proofs.InTime.{piece-short, some-both}
-use Rattle.cert_replay.specs.declared.fault.CheckFault.TheVariants.{Memory}
 use Rattle.cert_replay.proofs.Ahead.{head-in_time, RowsEnd}
 use Rattle.cert_replay.proofs.checking.check_report.Goals as goal
 

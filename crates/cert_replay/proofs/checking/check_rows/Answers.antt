@@ -9,12 +9,10 @@ use Rattle.std.specs.Io.KnownBytes.{IsAtEnd}
 use Rattle.report_text.specs.Line.{end, put_text}
 use Rattle.cert_replay.specs.Ends.{EndDeparts}
 use Rattle.cert_replay.specs.Faults.{IsSampleFault}
-use Rattle.cert_replay.specs.declared.fault.CheckFault.TheVariants.{Telemetry}
+use Rattle.cert_replay.specs.declared.fault.CheckFault.TheVariants.{Telemetry, Report}
 use Rattle.cert_replay.proofs.Turned.{no-turn, one-turn, turn-fault, turn-refused, turn-ends, unread-same, checked-same, if-err-at, if-ok-at, on-ok-at}
 use Rattle.input_files.specs.Ended.{TakesRow, EndsNoRow}
 use Rattle.input_files.proofs.Streams.{told-then, both-told}
-use Rattle.cert_replay.specs.Ahead.{IsBehind}
-use Rattle.cert_replay.specs.declared.fault.CheckFault.TheVariants.{Report}
 use Rattle.monitor_run.proofs.InTime.{InTime, in_time-init, one-in_time, piece-short}
 use Rattle.cert_replay.proofs.Ahead.{compared-due, ends-in_time, stream-in_time, end-after, RowsEnd}
 use Rattle.cert_replay.proofs.checking.check_rows.Goals as goal
