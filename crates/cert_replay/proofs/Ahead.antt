@@ -1,5 +1,5 @@
 -- Where the report is refused, the telemetry was read to the row that is wanted, and one piece at most behind its line.
-use Rattle.std.proofs.Common.{◌≡◌, ℕ, ◌+◌, ◌<◌, ◌≤◌, Bool, true, false, List, [], ◌∷◌, ◌++◌, length, Option, Some, None, IfSome, Result, Ok, Err, refl, sym, ap, ◌∙◌, subst, arith, length-append, ◌⊎◌, inl, inr}
+use Rattle.std.proofs.Common.{◌≡◌, ℕ, ◌+◌, ◌<◌, ◌≤◌, Bool, true, false, List, [], ◌++◌, length, Option, Some, None, IfSome, Result, Ok, Err, refl, sym, ap, ◌∙◌, subst, arith, length-append, ◌⊎◌, inl, inr}
 use Rattle.outside_io.specs.Shelf.{ShelfState}
 use Rattle.outside_io.specs.declared.shelf.GetFault.{GetFault}
 use Rattle.outside_io.specs.declared.shelf.GetFault.TheVariants as get
@@ -16,7 +16,7 @@ use Rattle.report_rules.proofs.Alone.{samples_lines-due}
 use Rattle.report_rules.proofs.Later.{due-lines-same}
 use Rattle.input_files.specs.Ended.{without_last, rows_ended, EndsNoRow, TakesHeader, begun_with, begun_under, files_begun}
 use Rattle.input_files.specs.Files.{most_telemetry, with_telemetry}
-use Rattle.input_files.specs.Stream.{BothTold, stream_fault}
+use Rattle.input_files.specs.Stream.{BothTold}
 use Rattle.input_files.specs.Told.{OnBytes}
 use Rattle.input_files.specs.Whole.{most_piece}
 use Rattle.input_files.specs.declared.model.ModelEnding.{ModelEnding}

@@ -32,12 +32,12 @@ returns-in-Ok-clause-says g c = λ named bytes told.
     let ps = plants_in m in
     let shelf = g.F.Shelf.state c.args.shelf.now in
     let after = g.F.Shelf.state c.check_head.new.shelf in
+    let telemetry : after.slot 1 ≡ shelf.slot 1 = c.check_head.ensures.kept.others.slots 1 (omega arith) (omega arith) in
     let u : HasUnread c.new-window.result shelf bytes = record { rest = bytes; told = told; is = sym (ap (λ x. x ++ bytes) c.new-window.ensures.left) } in
     let head = c.in_ok-check_head.ensures.stands named bytes u in
     let possible = c.all_possible-last.ensures ∙ ap (λ n. replicate n true) (c.count.ensures.value ∙ sym (length-plants m)) in
     let begun = begun-checked names ps bytes _ after head c.in-Ok.ensures.stands possible in
     let models = are-models m c.of-counts.result c.count.ensures.limits c.of-counts.ensures in
-    let telemetry : after.slot 1 ≡ shelf.slot 1 = c.check_head.ensures.kept.others.slots 1 (omega arith) (omega arith) in
     subst (λ (x : SlotState). IfSome x.rest (λ r. SaysOfChecked names ps c.check_rows.result (rows_owed c.args.head.now c.args.stream.now.cutter (left_of c.args.stream.now ++ r)) bytes)) telemetry
     (c.check_rows.ensures.says names ps bytes models begun)
 
@@ -74,12 +74,12 @@ returns-in-Ok-clause-in_time g c = λ named bytes told.
     let ps = plants_in m in
     let shelf = g.F.Shelf.state c.args.shelf.now in
     let after = g.F.Shelf.state c.check_head.new.shelf in
+    let telemetry : after.slot 1 ≡ shelf.slot 1 = c.check_head.ensures.kept.others.slots 1 (omega arith) (omega arith) in
     let u : HasUnread c.new-window.result shelf bytes = record { rest = bytes; told = told; is = sym (ap (λ x. x ++ bytes) c.new-window.ensures.left) } in
     let head = c.in_ok-check_head.ensures.stands named bytes u in
     let possible = c.all_possible-last.ensures ∙ ap (λ n. replicate n true) (c.count.ensures.value ∙ sym (length-plants m)) in
     let begun = begun-checked names ps bytes _ after head c.in-Ok.ensures.stands possible in
     let models = are-models m c.of-counts.result c.count.ensures.limits c.of-counts.ensures in
-    let telemetry : after.slot 1 ≡ shelf.slot 1 = c.check_head.ensures.kept.others.slots 1 (omega arith) (omega arith) in
     subst (λ (x : SlotState). RowsEnd c.args.head.now c.args.stream.now.cutter (left_of c.args.stream.now) x.rest ((g.F.Shelf.state c.check_rows.new.shelf).slot 1).rest names ps c.check_rows.result) telemetry
     (c.check_rows.ensures.in_time names ps bytes models begun)
 
