@@ -1,5 +1,5 @@
 -- What a check answers, from how it ended.
-use Rattle.std.proofs.Common.{◌≡◌, ◌≢◌, ◌⊎◌, ◌==◌, if◌then◌else◌, inl, inr, List, [], ℕ, Bool, true, false, Option, Some, None, IfSome, IsSome, Ok, Err, refl, sym, ap, subst, ◌∙◌, length, is_none, arith}
+use Rattle.std.proofs.Common.{◌≡◌, ◌≢◌, ◌⊎◌, ◌==◌, if◌then◌else◌, inl, inr, List, [], ℕ, ◌+◌, Bool, true, false, Option, Some, None, IfSome, IsSome, Ok, Err, refl, sym, ap, subst, ◌∙◌, length, is_none, arith}
 use Rattle.std.proofs.lemmas.List.{append-nil}
 use Rattle.outside_io.specs.Causes.{Rose}
 use Rattle.outside_io.specs.Shelf.{ShelfState}
@@ -17,16 +17,19 @@ use Rattle.report_rules.specs.Report.{IsReport, IsReportText}
 use Rattle.report_rules.specs.Replay.{Satisfies, SatisfiesBy}
 use Rattle.input_files.specs.Files.{Files, bad_model, bad_header, monitored, files_of, model_refusal, telemetry_refusal}
 use Rattle.input_files.specs.Told.{OnBytes, OnFile}
+use Rattle.input_files.specs.Whole.{TakesAtMost, most_model, most_piece}
 use Rattle.cert_replay.specs.declared.fault.Accepted.{Accepted}
 use Rattle.cert_replay.specs.declared.fault.CheckFault.{CheckFault}
 use Rattle.cert_replay.specs.declared.fault.CheckFault.TheVariants as check
+use Rattle.cert_replay.specs.Ahead.{OnReportLeft, RefusesInTime}
 use Rattle.cert_replay.specs.Outcome.{OnReport, SaysOfModel, SaysOfReport, ReadsFailed, AsksModelFirst, AsksInOrder, AllRead}
 use Rattle.zonomon_run.specs.Words.{asked_by, checks}
-use Rattle.zonomon_run.specs.Ending.{status_of, text_of, accepted_text, report_refusal_text, Tells}
+use Rattle.zonomon_run.specs.Ending.{status_of, text_of, accepted_text, Tells}
 use Rattle.zonomon_run.specs.declared.ending.Ending.TheVariants.{ReadModel, ReadTelemetry, ReadReport}
 use Rattle.zonomon_run.specs.Endings.{check_ending, unread_ending}
 use Rattle.zonomon_run.specs.Runs.{Outside, OnCheck, IsAccepted, PutsText, report_text}
 use Rattle.zonomon_run.specs.Checks.{Agrees, DepartsAtLine, Accepts, IsRefusedAt, IsCheckStatus, NoSlotRose, Unread, Checks, AreLinesWith, KeepsOwn, CheckedHulls, CheckedExclusions, CheckedMisses}
+use Rattle.monitor_run.specs.InTime.{lines_begun}
 use Rattle.monitor_run.specs.Reports.{report_of_rows, watch_of}
 use Rattle.zonomon_run.proofs.Runs.{refused-model, accepted-not-refused, not-refused, if-some, put-accepted}
 
@@ -227,7 +230,9 @@ module _ (model telemetry report : List ℕ) (before after : Outside) where
   -- a check that ended early
   module _ (fault : CheckFault) (says_model : OnFile before.shelf model (SaysOfModel (Err fault))) (says : OnReport before.shelf model telemetry report (SaysOfReport (Err fault)))
       (reads : HasReads fault) (asks : AsksInOrder model telemetry report (Err fault) after.shelf) (nothing : after.out.held ≡ before.out.held)
-      (told : Tells (text_of (check_ending fault)) before.err after.err) where
+      (told : Tells (text_of (check_ending fault)) before.err after.err)
+      (in_time : OnReportLeft before.shelf after.shelf model telemetry report (λ m t left. RefusesInTime (lines_begun m t) left (Err fault)))
+      (taken : TakesAtMost (most_model + most_piece) (before.shelf.file model) (after.shelf.slot 0)) where
     abbrev all-say : (C : (m t b : List ℕ) → Type 0) → ((m t b : List ℕ) → SaysOfModel (Err fault) m → SaysOfReport (Err fault) (files_of m t) b → C m t b)
         → IfSome (before.shelf.file report) (λ b. OnBytes (before.shelf.file model) (before.shelf.file telemetry) (λ m t. C m t b))
     all-say C f = three-say (before.shelf.file model) (before.shelf.file telemetry) (before.shelf.file report) (SaysOfModel (Err fault))
@@ -256,6 +261,7 @@ module _ (model telemetry report : List ℕ) (before after : Outside) where
         each-say (before.shelf.file model) (before.shelf.file telemetry) (before.shelf.file report)
             (λ m t b. SaysOfReport (Err (check.Report x.0)) (files_of m t) b) (λ m t b. DepartsAtLine x.0 (files_of m t) b) (λ m t b h. departs-at-line x.0 (files_of m t) b h)
             (subst (λ g. OnReport before.shelf model telemetry report (SaysOfReport (Err g))) x.1 says),
+        subst (λ g. OnReportLeft before.shelf after.shelf model telemetry report (λ m t left. RefusesInTime (lines_begun m t) left (Err g))) x.1 in_time,
         subst (λ g. Tells (text_of (check_ending g)) before.err after.err) x.1 told,
       );
       report_refuses = all-say _ (report-refuses fault reads);
@@ -270,6 +276,7 @@ module _ (model telemetry report : List ℕ) (before after : Outside) where
       asked_telemetry = asks.asked_telemetry;
       asked_report = asks.asked_report;
       asked_first = λ e. let x = of-two fault e in subst (λ g. AsksModelFirst (Err g) after.shelf) x.1 asks.first;
+      model_taken = taken;
       put = λ e. absurd (not-zero fault e);
       front = subst (λ x. AppendsFront before.out.held x accepted_text) (sym nothing) (no-front before.out.held accepted_text);
       nothing = λ _ _ _. nothing;
@@ -277,7 +284,8 @@ module _ (model telemetry report : List ℕ) (before after : Outside) where
 
   -- a check that accepted the report
   module _ (done : Accepted) (answer : ℕ) (says_model : OnFile before.shelf model (λ m. model_refusal m ≡ None)) (says : OnReport before.shelf model telemetry report (SaysOfReport (Ok done)))
-      (read : AllRead after.shelf) (asks : AsksInOrder model telemetry report (Ok done) after.shelf) (puts : PutsText accepted_text before.out answer after.out) where
+      (read : AllRead after.shelf) (asks : AsksInOrder model telemetry report (Ok done) after.shelf) (puts : PutsText accepted_text before.out answer after.out)
+      (taken : TakesAtMost (most_model + most_piece) (before.shelf.file model) (after.shelf.slot 0)) where
     good : OnReport before.shelf model telemetry report Accepts
     good = each-say (before.shelf.file model) (before.shelf.file telemetry) (before.shelf.file report)
         (λ m t b. SaysOfReport (Ok done) (files_of m t) b) (λ m t b. Accepts (files_of m t) b) (λ m t b h. accepts done (files_of m t) b h) says
@@ -322,6 +330,7 @@ module _ (model telemetry report : List ℕ) (before after : Outside) where
       asked_telemetry = asks.asked_telemetry;
       asked_report = asks.asked_report;
       asked_first = other 2 (λ e. omega arith) (λ e. omega arith) (λ e. omega arith);
+      model_taken = taken;
       put = puts.whole;
       front = puts.front;
       nothing = λ zero five six. other answer zero five six refl;
@@ -343,13 +352,13 @@ own-agrees (bad_model x) b e = tt
 own-agrees (bad_header x) b e = tt
 own-agrees (monitored ms rows) b e = subst (λ b. Satisfies (watch_of ms rows) b) (sym e) (own-satisfies ms rows (watch_of ms rows).is_whole)
 
-own : (model telemetry report : Option (List ℕ)) (answer : ℕ) (X : ℕ → Type 0)
-    → (answer ≡ 7 → (line : ℕ) × IfSome report (λ b. OnBytes model telemetry (λ m t. DepartsAtLine line (files_of m t) b)) × X line)
+own : (model telemetry report : Option (List ℕ)) (answer : ℕ)
+    → (answer ≡ 7 → (line : ℕ) × IfSome report (λ b. OnBytes model telemetry (λ m t. DepartsAtLine line (files_of m t) b)))
     → IfSome report (λ b. OnBytes model telemetry (λ m t. KeepsOwn answer (files_of m t) b))
-own model telemetry None answer X h = tt
-own None telemetry (Some b) answer X h = tt
-own (Some m) None (Some b) answer X h = tt
-own (Some m) (Some t) (Some b) answer X h = λ is seven.
+own model telemetry None answer h = tt
+own None telemetry (Some b) answer h = tt
+own (Some m) None (Some b) answer h = tt
+own (Some m) (Some t) (Some b) answer h = λ is seven.
     let x = h seven in
     departs-not-agrees x.0 (files_of m t) b x.1 (own-agrees (files_of m t) b is)
 
@@ -357,7 +366,7 @@ own (Some m) (Some t) (Some b) answer X h = λ is seven.
 pub own-kept : (model telemetry report : List ℕ) (before : Outside) (answer : ℕ) (after : Outside) → Checks model telemetry report before answer after
     → OnReport before.shelf model telemetry report (KeepsOwn answer)
 own-kept model telemetry report before answer after h = own (before.shelf.file model) (before.shelf.file telemetry) (before.shelf.file report) answer
-    (λ line. Tells (report_refusal_text line) before.err after.err) h.report_refused
+    (λ seven. let x = h.report_refused seven in (x.0, x.1))
 
 -- ---- what the lines of an accepted report claim
 

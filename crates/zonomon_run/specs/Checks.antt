@@ -1,5 +1,5 @@
 -- What a check does with files that the shelf tells.
-use Rattle.std.specs.Prelude.{◌≡◌, ◌≢◌, ◌⊎◌, ℕ, List, Some, None, IsSome}
+use Rattle.std.specs.Prelude.{◌≡◌, ◌≢◌, ◌⊎◌, ℕ, ◌+◌, ◌<◌, List, length, Some, None, IsSome}
 use Rattle.outside_io.specs.Causes.{Rose}
 use Rattle.outside_io.specs.Shelf.{ShelfState}
 use Rattle.outside_io.specs.Sink.{Gains, GainsFront}
@@ -12,10 +12,12 @@ use Rattle.report_text.specs.Line.{Line, lines_text}
 use Rattle.report_rules.specs.Report.{IsReport}
 use Rattle.report_rules.specs.Replay.{Satisfies, DepartsAt}
 use Rattle.report_rules.specs.Claims.{HullsHold, ExclusionsHold, MissesTold, plant_at}
+use Rattle.monitor_run.specs.InTime.{lines_begun}
 use Rattle.monitor_run.specs.Reports.{watch_of}
 use Rattle.input_files.specs.Files.{Files, bad_model, bad_header, monitored, model_refusal, telemetry_refusal}
 use Rattle.input_files.specs.Told.{OnFile, ReadFailed}
-use Rattle.input_files.specs.Whole.{IsAskedAtMost}
+use Rattle.input_files.specs.Whole.{IsAskedAtMost, TakesAtMost, most_model, most_piece}
+use Rattle.cert_replay.specs.Ahead.{OnReportLeft}
 use Rattle.cert_replay.specs.Outcome.{OnReport, AllRead}
 use Rattle.zonomon_run.specs.Ending.{Tells, text_of, accepted_text, telemetry_refusal_text, report_refusal_text}
 use Rattle.zonomon_run.specs.declared.ending.Ending.TheVariants.{ReadReport}
@@ -69,10 +71,16 @@ RefusesTelemetry model telemetry report before after =
     (fault : TelemFault) × OnReport before.shelf model telemetry report (IsRefusedAt fault)
     × Tells (telemetry_refusal_text fault) before.err after.err
 
--- the report departs first at a line, and that was told
+-- where so many bytes of the telemetry are left, the line is behind all that are due without the last piece read and the byte
+-- in front of it
+abbrev pub IsReadFor : ℕ → (model telemetry : List ℕ) → ℕ → Type 0
+IsReadFor line m t left = length (lines_begun m t (left + most_piece + 1)) < line
+
+-- the report departs first at a line, that was told, and the telemetry was read one piece at most past what the line needs
 abbrev pub RefusesReport : (model telemetry report : List ℕ) → Outside → Outside → Type 0
 RefusesReport model telemetry report before after =
     (line : ℕ) × OnReport before.shelf model telemetry report (DepartsAtLine line)
+    × OnReportLeft before.shelf after.shelf model telemetry report (IsReadFor line)
     × Tells (report_refusal_text line) before.err after.err
 
 -- the report could not be read, which was told
@@ -108,6 +116,7 @@ pub record Checks (model telemetry report : List ℕ) (before : Outside) (result
   pub asked_telemetry : IsAskedAtMost telemetry (after.shelf.slot 1)
   pub asked_report : IsAskedAtMost report (after.shelf.slot 2)
   pub asked_first : result ≡ 2 → AsksModelAlone after.shelf
+  pub model_taken : TakesAtMost (most_model + most_piece) (before.shelf.file model) (after.shelf.slot 0)
   pub put : result ≡ 0 → Gains accepted_text before.out after.out
   pub front : GainsFront accepted_text before.out after.out
   pub nothing : result ≢ 0 → result ≢ 5 → result ≢ 6 → after.out.held ≡ before.out.held
