@@ -13,3 +13,4 @@ pub mod Heads
 pub mod Turned
 pub mod Said
 pub mod Counted
+pub mod Ahead

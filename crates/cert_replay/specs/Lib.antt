@@ -6,3 +6,4 @@ pub mod Window
 pub mod Offers
 pub mod Checked
 pub mod Ends
+pub mod Ahead

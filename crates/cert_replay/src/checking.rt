@@ -1,5 +1,5 @@
 //! A check from its three files to its answer.
-ghost use Rattle.std.specs.Prelude.{◌≡◌, ℕ, ◌+◌, ◌≤◌, ◌<◌, ◌^◌, List, [], length, replicate, true, false, None, Some, IfErr, IfOk, OnOk};
+ghost use Rattle.std.specs.Prelude.{◌≡◌, ℕ, ◌+◌, ◌≤◌, ◌<◌, ◌^◌, List, [], ◌++◌, length, replicate, true, false, None, Some, IfErr, IfOk, OnOk};
 ghost use Rattle.std.specs.Io.KnownBytes.{IsAtEnd};
 ghost use Rattle.outside_io.specs.Causes.{Rose};
 ghost use Rattle.outside_io.specs.Shelf.{IsFresh};
@@ -11,8 +11,14 @@ ghost use Rattle.model_bank.specs.Bank.{plants_in, names_in};
 ghost use Rattle.report_text.specs.Line.{end, put_text};
 ghost use Rattle.input_files.specs.Files.{files_with, most_telemetry};
 ghost use Rattle.input_files.specs.Stream.{OnRows, ReadsOn, IsEndedAt};
+ghost use Rattle.input_files.specs.Ended.{without_last, rows_ended, begun_with};
 ghost use Rattle.input_files.specs.Told.{OnFile};
+ghost use Rattle.input_files.specs.Whole.{TakesAtMost, most_model, most_piece};
+ghost use Rattle.monitor_run.specs.InTime.{OnTaken, OnUnreadLeft};
+ghost use Rattle.monitor_run.specs.InTime.{begun_of, lines_begun, report_begun, rows_begun};
+ghost use Rattle.report_rules.specs.Lines.{head_lines};
 ghost use Rattle.cert_replay.specs.Outcome.{OnReport, SaysOfModel, SaysOfReport, IfRead, ReadsFailed, AllRead, AsksInOrder};
+ghost use Rattle.cert_replay.specs.Ahead.{OnReportLeft, RefusesInTime, RowsRefuseInTime};
 ghost use Rattle.cert_replay.specs.Faults.{IsSampleFault};
 ghost use Rattle.cert_replay.specs.Lines.{room};
 ghost use Rattle.cert_replay.specs.Window.{HasUnread};
@@ -44,6 +50,12 @@ pub fn check<F: Shelf>(
     requires fresh { IsFresh (F.state shelf.old) }
     ensures says_model { OnFile (F.state shelf.old) model.now (SaysOfModel result) }
     ensures says { OnReport (F.state shelf.old) model.now telemetry.now report.now (SaysOfReport result) }
+
+    // Where the report is refused, the telemetry was read to the line that judges the refused one, and a piece at most past it.
+    ensures in_time { OnReportLeft (F.state shelf.old) (F.state shelf.new) model.now telemetry.now report.now
+        (λ m t left. RefusesInTime (lines_begun m t) left result) }
+    ensures model_taken { TakesAtMost (most_model + most_piece)
+        ((F.state shelf.old).file model.now) ((F.state shelf.new).slot 0) }
     ensures read { IfRead result (ReadsFailed model.now telemetry.now report.now (F.state shelf.old) (F.state shelf.new)) }
     ensures at_end { OnOk result (AllRead (F.state shelf.new)) }
     ensures asks { AsksInOrder model.now telemetry.now report.now result (F.state shelf.new) }
@@ -64,6 +76,9 @@ fn check_models<F: Shelf>(
     requires asked_report { ((F.state shelf.old).slot 2).asked ≡ None }
     ensures says { AreNamed (names_in models) → OnFile (F.state shelf.old) report.now (λ bytes.
         OnFile (F.state shelf.old) telemetry.now (λ t. SaysOfReport result (files_with models t) bytes)) }
+    ensures in_time { AreNamed (names_in models) → OnFile (F.state shelf.old) report.now (λ bytes.
+        OnTaken (F.state shelf.old) (F.state shelf.new) telemetry.now (λ t left. RefusesInTime
+        (λ k. begun_of (begun_with models (without_last k t))) left result)) }
     ensures ends { EndsModels telemetry.now report.now (F.state shelf.old) (F.state shelf.new) result }
 {
     match shelf.attach(TELEMETRY_SLOT, telemetry) {
@@ -93,6 +108,10 @@ fn check_report<F: Shelf>(
     ensures says { AreNamed (names_in models) → (bytes : List ℕ) → ((F.state shelf.old).slot 2).rest ≡ Some bytes
         → OnRows 1 head.now stream.old (F.state shelf.old)
         (λ rows. SaysOfChecked (names_in models) (plants_in models) result rows bytes) }
+    ensures in_time { AreNamed (names_in models) → (bytes : List ℕ) → ((F.state shelf.old).slot 2).rest ≡ Some bytes
+        → OnUnreadLeft stream.old (F.state shelf.old) (F.state shelf.new) (λ unread left. RowsRefuseInTime
+        (λ k. report_begun models (rows_ended head.now stream.old.cutter (without_last k unread)))
+        (length unread) left result) }
     ensures ends { EndsRows (F.state shelf.old) (F.state shelf.new) result }
 {
     let mut window = Window::new();
@@ -166,6 +185,11 @@ fn check_rows<F: Shelf>(
     ensures says { (names : List (List ℕ)) (ps : List Plant) (bytes : List ℕ) → AreModels names ps replay.old.counts
         → Checked names ps [] bytes replay.old (F.state shelf.old)
         → OnRows 1 head.now stream.old (F.state shelf.old) (λ rows. SaysOfChecked names ps result rows bytes) }
+    ensures in_time { (names : List (List ℕ)) (ps : List Plant) (bytes : List ℕ) → AreModels names ps replay.old.counts
+        → Checked names ps [] bytes replay.old (F.state shelf.old)
+        → OnUnreadLeft stream.old (F.state shelf.old) (F.state shelf.new) (λ unread left. RowsRefuseInTime
+        (λ k. head_lines names ++ rows_begun ps (rows_ended head.now stream.old.cutter (without_last k unread)))
+        (length unread) left result) }
     ensures ends { EndsRows (F.state shelf.old) (F.state shelf.new) result }
 {
     'rows: loop {

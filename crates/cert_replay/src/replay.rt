@@ -25,6 +25,7 @@ pub struct Replay {
 }
 
 impl Replay {
+    ghost use Rattle.cert_replay.specs.Ahead.{IsBehind};
     ghost use Rattle.cert_replay.specs.Faults.{IsSampleFault};
     ghost use Rattle.cert_replay.specs.Checked.{AreModels, Checked, IsReady, DepartsInSample};
 
@@ -45,6 +46,7 @@ impl Replay {
         ensures departs { IfErr result (λ fault. (names : List (List ℕ)) (ps : List Plant) (taken : List OneSample) (bytes : List ℕ)
             → AreModels names ps self.old.counts → Checked names ps taken bytes self.old (F.state shelf.old)
             → DepartsInSample names ps taken (sample_of sample.now) bytes fault) }
+        ensures behind { IfErr result (IsBehind self.old.window.lines) }
         ensures ready { OnOk result (IsReady self.new) }
         ensures inputs { self.new.bank.inputs ≡ self.old.bank.inputs }
         ensures outputs { self.new.bank.outputs ≡ self.old.bank.outputs }

@@ -10,6 +10,8 @@ use Rattle.report_rules.specs.Report.{lives_before}
 use Rattle.cert_replay.specs.Window.{left_in, HasUnread, DepartsBehind}
 use Rattle.cert_replay.specs.Checked.{Checked}
 use Rattle.cert_replay.specs.Offers.{AreCountsOf, TakesSample}
+use Rattle.std.proofs.lemmas.Result.{err_from_is_err_and}
+use Rattle.cert_replay.proofs.Ahead.{departs-behind, refused-behind, report-behind}
 use Rattle.cert_replay.proofs.Comparing.{if-err}
 use Rattle.cert_replay.proofs.Replaying.{possible-many, sample-checked, sample-other, refused-other}
 use Rattle.cert_replay.proofs.replay.Replay.check_sample.Goals as goal
@@ -77,3 +79,16 @@ returns-in-Err-clause-departs g c = λ names ps taken bytes models checked line 
     (subst (λ n. DepartsBehind (lines_text (sample n ∷ flat_map model_lines (map model_seen c.deref-in-Err.result.now) ++ preds)) w1 line) at (c.compare_refused.ensures.departs line e)) in
     refused-other names ps taken bytes r0 s0 s1 w1 s os models checked ahead (takes checked) (omega (arith, checked.stands.count_is, c.requires.counted)) c.step_with_into.new.earlier c.in-Err.refused
     (all ps taken (lives_before checked.choice (length ps) (length taken)) checked.stands) line front more is_whole
+
+pub returns-in-Ok-clause-behind : goal.returns-in-Ok-clause-behind
+returns-in-Ok-clause-behind g c =
+    if-err c.compare_sample.result _ _ (λ fault h line e. departs-behind _ c.args.self.now.window c.take_sample.new.window c.in_ok-offers.ensures.ahead.lines line (h line e)) c.compare_sample.ensures.departs
+
+pub returns-in-Err-clause-behind : goal.returns-in-Err-clause-behind
+returns-in-Err-clause-behind g c = λ line e.
+    refused-behind _ c.args.self.now.window c.take_sample.new.window c.in_ok-offers.ensures.ahead.lines line (c.compare_refused.ensures.departs line e)
+
+pub returns-in_err-offers-clause-behind : goal.returns-in_err-offers-clause-behind
+returns-in_err-offers-clause-behind g c =
+    let p = err_from_is_err_and c.from_residual.result c.from_residual.ensures.1 in
+    rw (p.1, p.2) (report-behind c.in_err-offers.field-0.0 c.in_err-offers.ensures.fault c.args.self.now.window.lines)
