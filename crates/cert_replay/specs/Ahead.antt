@@ -9,10 +9,12 @@ use Rattle.cert_replay.specs.declared.fault.CheckFault.{CheckFault}
 use Rattle.cert_replay.specs.declared.fault.CheckFault.TheVariants.{Model, Telemetry, Read, Report, Memory}
 
 -- a claim on the model file and the telemetry and on how many bytes of it slot 1 has left, where the report is told too
-abbrev pub OnReportLeft : (before after : ShelfState) → (model telemetry report : List ℕ) → (List ℕ → List ℕ → ℕ → Type 0) → Type 0
-OnReportLeft before after model telemetry report claim = OnFile before report (λ bytes. OnLeft before after model telemetry claim)
+abbrev pub OnReportLeft : (before after : ShelfState) → (model telemetry report : List ℕ)
+    → (List ℕ → List ℕ → ℕ → Type 0) → Type 0
+OnReportLeft before after model telemetry report claim =
+    OnFile before report (λ bytes. OnLeft before after model telemetry claim)
 
--- Where a line of the report is refused, it is behind all lines that are due without the last piece read and the byte before it.
+-- A line of the report that is refused is behind all lines due without the last piece read and the byte before it.
 -- `begun k` are the lines due for the telemetry without its last k bytes, and `left` bytes of it are unread.
 abbrev pub RefusesInTime : (ℕ → List Line) → ℕ → Result Accepted CheckFault → Type 0
 RefusesInTime begun left (Ok accepted) = Unit

@@ -51,10 +51,11 @@ pub fn check<F: Shelf>(
     ensures says_model { OnFile (F.state shelf.old) model.now (SaysOfModel result) }
     ensures says { OnReport (F.state shelf.old) model.now telemetry.now report.now (SaysOfReport result) }
 
-    // Where the report is refused, the telemetry was read to the line that the refused one needs, and one piece at most past it.
+    // Where the report is refused, the telemetry was read to the line that judges the refused one, and a piece at most past it.
     ensures in_time { OnReportLeft (F.state shelf.old) (F.state shelf.new) model.now telemetry.now report.now
         (λ m t left. RefusesInTime (lines_begun m t) left result) }
-    ensures model_taken { TakesAtMost (most_model + most_piece) ((F.state shelf.old).file model.now) ((F.state shelf.new).slot 0) }
+    ensures model_taken { TakesAtMost (most_model + most_piece)
+        ((F.state shelf.old).file model.now) ((F.state shelf.new).slot 0) }
     ensures read { IfRead result (ReadsFailed model.now telemetry.now report.now (F.state shelf.old) (F.state shelf.new)) }
     ensures at_end { OnOk result (AllRead (F.state shelf.new)) }
     ensures asks { AsksInOrder model.now telemetry.now report.now result (F.state shelf.new) }
@@ -109,7 +110,8 @@ fn check_report<F: Shelf>(
         (λ rows. SaysOfChecked (names_in models) (plants_in models) result rows bytes) }
     ensures in_time { AreNamed (names_in models) → (bytes : List ℕ) → ((F.state shelf.old).slot 2).rest ≡ Some bytes
         → OnUnreadLeft stream.old (F.state shelf.old) (F.state shelf.new) (λ unread left. RowsRefuseInTime
-        (λ k. report_begun models (rows_ended head.now stream.old.cutter (without_last k unread))) (length unread) left result) }
+        (λ k. report_begun models (rows_ended head.now stream.old.cutter (without_last k unread)))
+        (length unread) left result) }
     ensures ends { EndsRows (F.state shelf.old) (F.state shelf.new) result }
 {
     let mut window = Window::new();
