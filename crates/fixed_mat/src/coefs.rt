@@ -1,12 +1,13 @@
 //! The coefficients of a row, whose magnitudes add up to a bounded sum.
 
 ghost use Rattle.std.specs.Prelude.{◌≡◌, ℕ, ◌+◌, ◌<◌, ◌≤◌, ◌↔◌, [], ◌∷◌, ◌++◌, length, unsigned_abs, pos, ◌*ℤ◌, ◌≤ℤ◌, IsErr};
-ghost use Rattle.std.specs.Prelude.{IfErr, OnOk, OnErr};
+ghost use Rattle.std.specs.Prelude.{IfErr, OnOk, OnErr, replicate};
 ghost use Rattle.std.specs.List.{sum_by};
 ghost use Rattle.set_rules.specs.Columns.{at};
 ghost use Rattle.set_rules.specs.Limits.{row_limit, most_columns};
 ghost use Rattle.set_rules.specs.Products.{rounded_row, rounded_size, row_residue};
 ghost use Rattle.fixed_mat.specs.Fits.{FitsRow};
+ghost use Rattle.fixed_mat.specs.Rows.{marked, kept_at, lost_at};
 
 use crate::cols::Cols;
 use crate::mat::{Coef, Mat, OverLimit};
@@ -94,6 +95,52 @@ impl Coefs {
         self.items.push(v);
         self.sum = sum;
         Ok(())
+    }
+
+    /// The same coefficients once more.
+    pub fn copy(&self) -> Self
+        ensures { result ≡ self.now }
+    {
+        let mut items = ArrayVec::new();
+        items.try_extend_from_slice(&self.items).unwrap();
+        Coefs {
+            items,
+            sum: self.sum,
+        }
+    }
+
+    /// Appends zeros.
+    pub fn widen(&mut self, by: usize)
+        requires { length self.old + by ≤ most_columns }
+        ensures { self.new ≡ self.old ++ replicate by (pos 0) }
+    {
+        for _ in 0..by {
+            self.items.push(0);
+        }
+    }
+
+    /// Keeps the coefficients at the marked places, in their order; gives the sum of the magnitudes of the others.
+    pub fn retain(&mut self, keep: &[bool]) -> u128
+        requires { length self.old ≤ length keep.now }
+        ensures kept { self.new ≡ kept_at (marked keep.now) self.old }
+        ensures lost { pos result ≡ lost_at (marked keep.now) self.old }
+        ensures sum { sum_by unsigned_abs self.new + result ≡ sum_by unsigned_abs self.old }
+        ensures small { sum_by unsigned_abs self.new + result ≤ row_limit }
+    {
+        let mut count = 0;
+        let mut lost: u128 = 0;
+        for t in 0..self.items.len() {
+            let v = self.items[t];
+            if keep[t] {
+                self.items[count] = v;
+                count += 1;
+            } else {
+                lost += v.unsigned_abs();
+            }
+        }
+        self.items.truncate(count);
+        self.sum -= lost;
+        lost
     }
 
     /// Puts row `r` of `m` times each column, rounded, in the place of all coefficients, in the width of

@@ -13,6 +13,7 @@ mod products;
 mod raws;
 mod reading;
 mod round;
+mod rows;
 mod whole;
 
 pub use coefs::Coefs;
@@ -22,6 +23,7 @@ pub use products::{column_product, dot, row_times_vector, tell_products, times};
 pub use raws::Raws;
 pub use reading::Reading;
 pub use round::{NarrowRounding, Rounding, S, ceil_s, narrow_rounding, residue, rnd, rounded};
+pub use rows::Rows;
 pub use whole::{Rounded, Whole};
 
 /// The greatest magnitude of a coefficient of a plant, and of a gain, in nano-units.

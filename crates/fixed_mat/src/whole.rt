@@ -1,6 +1,7 @@
 //! Whole numbers in 64 or in 128 bits: what a pass over columns reckons with.
 
 ghost use Rattle.std.specs.Prelude.{ℕ, ℤ, ◌≡◌, ◌≤◌, ◌^◌, pos, ◌+ℤ◌, ◌-ℤ◌, ◌*ℤ◌, unsigned_abs};
+ghost use Rattle.std.specs.Int.{int_max};
 ghost use Rattle.set_rules.specs.Sum.{magnitude};
 ghost use Rattle.set_rules.specs.Zono.{range};
 ghost use Rattle.set_rules.specs.Limits.{narrow_limit, wide_limit};
@@ -53,6 +54,10 @@ pub trait Whole: Copy + Drop {
     fn size(self) -> Self
         requires { unsigned_abs (value self) ≤ limit }
         ensures { value result ≡ magnitude (value self) };
+
+    /// The greater of two.
+    fn most(self, y: Self) -> Self
+        ensures { value result ≡ int_max (value self) (value y) };
 
     /// The nearest whole number of which a unit make it, halves upwards, and how far it is from that.
     fn rounded(self) -> Rounded<Self>
@@ -119,6 +124,10 @@ impl Whole for i64 {
         self.abs()
     }
 
+    fn most(self, y: i64) -> i64 {
+        if self < y { y } else { self }
+    }
+
     fn rounded(self) -> Rounded<i64> {
         let of = narrow_rounding(self);
         Rounded {
@@ -175,6 +184,10 @@ impl Whole for i128 {
 
     fn size(self) -> i128 {
         self.abs()
+    }
+
+    fn most(self, y: i128) -> i128 {
+        if self < y { y } else { self }
     }
 
     fn rounded(self) -> Rounded<i128> {

@@ -1,0 +1,203 @@
+//! Rows that a set keeps: linear equations on its symbols.
+
+ghost use Rattle.std.specs.Prelude.{◌≡◌, ℕ, ◌+◌, ◌<◌, ◌≤◌, ◌↔◌, [], ◌∷◌, ◌++◌, length, map, drop, unsigned_abs, replicate, pos};
+ghost use Rattle.std.specs.List.{sum_by};
+ghost use Rattle.set_rules.specs.Limits.{row_limit, most_columns, most_rows};
+ghost use Rattle.set_rules.specs.Reduce.{places};
+ghost use Rattle.set_rules.specs.Rows.{row_at, widened_by};
+ghost use Rattle.set_rules.specs.Farkas.{coefficient};
+ghost use Rattle.set_rules.specs.Products.{row_with};
+ghost use Rattle.fixed_mat.specs.Rows.{marked, condensed_row, condensed_rows};
+
+use crate::coefs::Coefs;
+use arrayvec::ArrayVec;
+use std::marker::Model;
+
+/// A row: its coefficients, and its right side, in nano-units.
+#[derive(Drop)]
+struct KeptRow {
+    a: Coefs,
+    b: i128,
+}
+
+impl Model for KeptRow {
+    ghost use Rattle.set_rules.specs.Rows.{Row};
+
+    ghost Value = { Row };
+
+    ghost view = { λ r. record { coefficients = r.a; right = r.b } };
+}
+
+impl Default for KeptRow {
+    fn default() -> Self {
+        KeptRow {
+            a: Coefs::new(),
+            b: 0,
+        }
+    }
+}
+
+impl KeptRow {
+    /// Adds zero coefficients.
+    fn widen(&mut self, by: usize)
+        requires { length self.old.coefficients + by ≤ most_columns }
+        ensures { self.new ≡ widened_by by self.old }
+    {
+        self.a.widen(by);
+    }
+
+    /// Keeps the coefficients at the marked places, and appends `more` of which the one at `place` is the sum of the magnitudes of the others.
+    fn condense(&mut self, keep: &[bool], more: usize, place: usize)
+        requires marks { length self.old.coefficients ≤ length keep.now }
+        requires place { place < more }
+        requires room { length (places (marked keep.now) (length self.old.coefficients)) + more ≤ most_columns }
+        ensures { self.new ≡ condensed_row (marked keep.now) more place self.old }
+    {
+        let lost = self.a.retain(keep);
+        self.a.widen(place);
+        self.a.push(lost as i128).unwrap();
+        self.a.widen(more - place - 1);
+    }
+}
+
+/// At most six rows of one width, which is at most 128, oldest first.
+/// In each the magnitudes of the coefficients add up to at most `ROW`, and the right side is within it.
+#[derive(Drop)]
+pub struct Rows {
+    rows: ArrayVec<KeptRow, 6>,
+    width: usize,
+}
+
+impl Model for Rows {
+    ghost use Rattle.fixed_mat.specs.Rows.{Table, IsTable};
+
+    ghost Value = { Table };
+
+    ghost view = { λ t. record { width = t.width; rows = t.rows.items } };
+
+    ghost invariant = { λ t. IsTable (record { width = t.width; rows = t.rows.items }) };
+}
+
+impl Rows {
+    /// No rows, of this width.
+    pub fn new(width: usize) -> Self
+        requires { width ≤ most_columns }
+        ensures rows { result.rows ≡ [] }
+        ensures width { result.width ≡ width }
+    {
+        Rows {
+            rows: ArrayVec::new(),
+            width,
+        }
+    }
+
+    /// How many rows there are.
+    pub fn count(&self) -> usize
+        ensures value { result ≡ length self.now.rows }
+        ensures few { result ≤ most_rows }
+    {
+        self.rows.len()
+    }
+
+    /// How many coefficients each row has.
+    pub fn width(&self) -> usize
+        ensures value { result ≡ self.now.width }
+        ensures narrow { result ≤ most_columns }
+    {
+        self.width
+    }
+
+    /// Tells that each row has a coefficient for each column, as the type keeps it.
+    pub fn tell_widths(&self)
+        ensures { (r : ℕ) → r < length self.now.rows → length (row_at self.now.rows r).coefficients ≡ self.now.width }
+    {
+        let _ = &self.rows;
+    }
+
+    /// The coefficients of row `r`.
+    pub fn row(&self, r: usize) -> &Coefs
+        requires { r < length self.now.rows }
+        ensures value { result.now ≡ (row_at self.now.rows r).coefficients }
+        ensures wide { length result.now ≡ self.now.width }
+    {
+        let row = &self.rows[r];
+        &row.a
+    }
+
+    /// Coefficient `t` of row `r`.
+    pub fn coef(&self, r: usize, t: usize) -> i128
+        requires row { r < length self.now.rows }
+        requires column { t < self.now.width }
+        ensures value { result ≡ coefficient self.now.rows r t }
+        ensures within { unsigned_abs result ≤ row_limit }
+    {
+        self.row(r).at(t)
+    }
+
+    /// The sum of the magnitudes of the coefficients of row `r`.
+    pub fn sum(&self, r: usize) -> u128
+        requires { r < length self.now.rows }
+        ensures value { result ≡ sum_by unsigned_abs (row_at self.now.rows r).coefficients }
+        ensures within { result ≤ row_limit }
+    {
+        self.row(r).sum()
+    }
+
+    /// The right side of row `r`.
+    pub fn rhs(&self, r: usize) -> i128
+        requires { r < length self.now.rows }
+        ensures value { result ≡ (row_at self.now.rows r).right }
+        ensures within { unsigned_abs result ≤ row_limit }
+    {
+        let row = &self.rows[r];
+        row.b
+    }
+
+    /// Keeps a row as the newest.
+    pub fn push(&mut self, a: &Coefs, b: i128)
+        requires room { length self.old.rows < most_rows }
+        requires width { length a.now ≡ self.old.width }
+        requires right { unsigned_abs b ≤ row_limit }
+        ensures rows { self.new.rows ≡ self.old.rows ++ row_with a.now b ∷ [] }
+        ensures width { self.new.width ≡ self.old.width }
+    {
+        self.rows.push(KeptRow { a: a.copy(), b });
+    }
+
+    /// Adds zero coefficients to each row.
+    pub fn widen(&mut self, by: usize)
+        requires { self.old.width + by ≤ most_columns }
+        ensures rows { self.new.rows ≡ map (widened_by by) self.old.rows }
+        ensures width { self.new.width ≡ self.old.width + by }
+    {
+        for row in self.rows.iter_mut() {
+            row.widen(by);
+        }
+        self.width += by;
+    }
+
+    /// Drops the oldest row.
+    pub fn drop_first(&mut self)
+        requires { 0 < length self.old.rows }
+        ensures rows { self.new.rows ≡ drop 1 self.old.rows }
+        ensures width { self.new.width ≡ self.old.width }
+    {
+        let _oldest = self.rows.remove(0);
+    }
+
+    /// Keeps in each row the coefficients at the `count` marked places, in their order. Then come zeros for so many states, and one
+    /// coefficient for each row, oldest first, of which its own is the sum of the magnitudes that it lost.
+    pub fn condense(&mut self, keep: &[bool], count: usize, states: usize)
+        requires marks { self.old.width ≤ length keep.now }
+        requires count { count ≡ length (places (marked keep.now) self.old.width) }
+        requires room { count + states + length self.old.rows ≤ most_columns }
+        ensures rows { self.new.rows ≡ condensed_rows (marked keep.now) states self.old.rows }
+        ensures width { self.new.width ≡ count + states + length self.old.rows }
+    {
+        let rows = self.rows.len();
+        for r in 0..rows {
+            self.rows[r].condense(keep, states + rows, states + r);
+        }
+        self.width = count + states + rows;
+    }
+}
