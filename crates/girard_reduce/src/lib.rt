@@ -3,8 +3,9 @@
 #![tactic(auto)]
 
 mod cut;
+mod keys;
 mod ranks;
 mod reduction;
 
 pub use ranks::{Marks, kept, rank};
-pub use reduction::{reduce, reduce_in_place};
+pub use reduction::{reduce, reduce_in_place, reduce_lifted};

@@ -2,7 +2,6 @@
 use Rattle.std.proofs.Common.{◌≡◌, ℕ, ◌<◌, ◌≤◌, List, length, ℤ, pos, ◌+ℤ◌, ◌≤ℤ◌, unsigned_abs, sym, ap, ◌∙◌, arith}
 use Rattle.std.proofs.lemmas.Int.{ints}
 use Rattle.set_rules.specs.Sum.{total, magnitude}
-use Rattle.set_rules.specs.Symbols.{diagonal}
 use Rattle.set_rules.specs.Columns.{at, entry, row_magnitude, tabulate}
 use Rattle.set_rules.specs.Round.{rnd, residue, ceil_s}
 use Rattle.set_rules.specs.Reduce.{diagonal_columns}
@@ -12,7 +11,7 @@ use Rattle.set_rules.proofs.Sums.{total-magnitudes-low}
 use Rattle.set_rules.proofs.Rounds.{ceil_s-least}
 use Rattle.set_rules.proofs.ImageSets.{length-tabulate, get_or-tabulate, centre-image, reach-image, slack-in_range}
 use Rattle.fixed_mat.proofs.Columns.{tabulate-same}
-use Rattle.girard_reduce.proofs.Reduced.{same_column}
+use Rattle.girard_reduce.proofs.Reduced.{same_box}
 use Rattle.zono_set.proofs.Bound.{residue-half, residues-within}
 
 module _ (n w : ℕ) (a shift e : List ℤ) (z : Zono) (i : ℕ) (h : i < n) where
@@ -65,7 +64,7 @@ module _ (n : ℕ) (a shift : List ℤ) (z : Zono) (of_centre slacks : List ℤ)
   pub slacks-columns : diagonal_columns n (at slacks) ≡ diagonal_columns n (slack n a shift z)
   slacks-columns =
       let s : ℕ → ℤ = slack n a shift z in
-      tabulate-same n (λ j. tabulate n (λ i. diagonal (at slacks) i j)) (λ j. tabulate n (λ i. diagonal s i j)) (λ j h. same_column n j (at slacks) s (slacks-are j h))
+      same_box n (at slacks) s slacks-are
 
 -- no state of a centre leaves much
 pub centre-left : (n : ℕ) (f : ℕ → ℤ) (left : List ℤ) → left ≡ tabulate n (λ i. residue (f i)) → (i : ℕ) → i < length left → (pos 0 ≤ℤ at left i) × (at left i ≤ℤ pos 1_000_000_000_000)

@@ -1,7 +1,7 @@
 -- The row of an output, read as a matrix of one row.
-use Rattle.std.proofs.Common.{◌≡◌, ℕ, List, length, ℤ, ◌*ℤ◌, ap}
-use Rattle.set_rules.specs.Sum.{total, magnitude}
-use Rattle.set_rules.specs.Columns.{entry, column_entry}
+use Rattle.std.proofs.Common.{◌≡◌, ℕ, List, length, ℤ, ap}
+use Rattle.set_rules.specs.Sum.{magnitude}
+use Rattle.set_rules.specs.Columns.{column_entry}
 use Rattle.set_rules.specs.Round.{rnd, residue}
 use Rattle.set_rules.specs.Zono.{Zono}
 use Rattle.set_rules.specs.Strip.{raw_coefficient, output_row, output_size, output_residue}

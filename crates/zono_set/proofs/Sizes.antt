@@ -10,7 +10,7 @@ use Rattle.set_rules.proofs.Sums.{total-zero, total-suc}
 use Rattle.set_rules.proofs.Rounds.{rnd-within}
 use Rattle.fixed_mat.proofs.Fits.{sum_fits, total-each}
 use Rattle.fixed_mat.specs.Fits.{FitsRow, widest_product}
-use Rattle.set_rules.specs.Products.{rounded_size, rest_size}
+use Rattle.set_rules.specs.Products.{rounded_size}
 
 -- where each product is within b, its rounding is within m
 pub sizes-within : (b m n : ℕ) (a : List ℤ) (r : ℕ) (g : List (List ℤ)) → b + 500_000_000 < 1_000_000_000 * (m + 1) → FitsRow b n a r g

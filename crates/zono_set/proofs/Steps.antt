@@ -1,5 +1,5 @@
 -- What rounding gives of numbers that come from their bits.
-use Rattle.std.proofs.Common.{◌≡◌, ℕ, ◌+◌, ◌*◌, ◌^◌, ◌<◌, ◌≤◌, List, [], ◌∷◌, ◌++◌, length, get_or, drop, set, ℤ, pos, ◌+ℤ◌, ◌-ℤ◌, ◌*ℤ◌, ◌≤ℤ◌, unsigned_abs, to_z, of_z, to_z-of_z, SFits, Result, Ok, Err, IsOk, IsErr, arith, refl, sym, ap, ◌∙◌, subst, append_assoc}
+use Rattle.std.proofs.Common.{◌≡◌, ℕ, ◌+◌, ◌*◌, ◌^◌, ◌<◌, ◌≤◌, List, [], ◌∷◌, ◌++◌, length, get_or, drop, set, ℤ, pos, ◌+ℤ◌, ◌-ℤ◌, ◌*ℤ◌, ◌≤ℤ◌, unsigned_abs, to_z, of_z, to_z-of_z, SFits, arith, sym, ap, ◌∙◌, subst, append_assoc}
 use Rattle.std.proofs.lemmas.Int.{ints, fits_signed_from_abs}
 use Rattle.std.proofs.lemmas.List.{drop_more, set_at, get_or_at}
 use Rattle.std.proofs.lemmas.List.FromFn.{map-range_with_len_more, length-map-range_with_len, get_or-map-range_with_len}
@@ -77,11 +77,6 @@ module _ (bits : ℕ) (a : ℤ) (count : ℕ) (noise : ℤ) (hb : unsigned_abs (
 -- the same with what a loop holds behind
 pub sum_behind : (x : ℤ) (bits : ℕ) → unsigned_abs x ≤ 10 ^ 36 → unsigned_abs (to_z w128 bits) ≤ 10 ^ 36 → to_z w128 (of_z w128 (to_z w128 (of_z w128 x) +ℤ to_z w128 bits)) ≡ x +ℤ to_z w128 bits
 sum_behind x bits h k = fold (to_z w128 (of_z w128 x) +ℤ to_z w128 bits) (x +ℤ to_z w128 bits) (ap (λ z. z +ℤ to_z w128 bits) (back x (omega arith))) (omega (arith, ints))
-
--- a call that is refused only where this holds is not refused where it does not
-pub ok_unless : {T E : Type 0} (r : Result T E) (P : Type 0) → (IsErr r → P) → (P → ⊥) → IsOk r
-ok_unless (Ok x) P h never = refl
-ok_unless (Err e) P h never = absurd (never (h refl))
 
 -- what makes up for the rounding is little where what it leaves is
 pub slack_small : (left s : ℤ) → pos 0 ≤ℤ left → left ≤ℤ pos (2 * 10 ^ 12) → s ≡ ceil_s left → unsigned_abs s ≤ 10 ^ 12

@@ -12,13 +12,14 @@ ghost use Rattle.set_rules.specs.Columns.{at, column_entry, row_magnitude, tabul
 ghost use Rattle.set_rules.specs.Zono.{reach, range, InRange};
 ghost use Rattle.set_rules.specs.Limits.{most_columns, most_states};
 ghost use Rattle.set_rules.specs.Box.{box, hull as hull_of};
-ghost use Rattle.set_rules.specs.Reduce.{greatest, reduce_set};
+ghost use Rattle.set_rules.specs.Reduce.{greatest, reduce_set, reduce_lifted as reduce_lifted_of};
+ghost use Rattle.set_rules.specs.Keep.{with_rows};
 ghost use Rattle.set_rules.specs.Image.{IsFirstPast};
 ghost use Rattle.zono_set.specs.Holds.{HoldsBox, HoldsState, HoldsSet};
 
 use arrayvec::ArrayVec;
-use fixed_mat::{Cols, Mat, Range};
-use girard_reduce::reduce_in_place;
+use fixed_mat::{Cols, Mat, Range, Rows};
+use girard_reduce::{reduce_in_place, reduce_lifted};
 use std::marker::Model;
 pub use strip::StripRow;
 pub use substitute::Used;
@@ -161,6 +162,18 @@ impl<const N: usize> Zono<N> {
         ensures holds { HoldsSet N self.old self.new }
     {
         reduce_in_place(&mut self.cols, max);
+    }
+
+    /// The same with rows on the symbols of the columns, each of which counts as one more state: `girard_reduce::reduce_lifted`.
+    pub fn reduce_with(&mut self, rows: &mut Rows, max: usize)
+        requires width { rows.old.width ≡ length self.old.columns }
+        requires low { N + length rows.old.rows ≤ max }
+        requires high { max ≤ most_columns }
+        ensures set { self.new ≡ (reduce_lifted_of N max (with_rows self.old rows.old.rows)).base }
+        ensures rows { rows.new.rows ≡ (reduce_lifted_of N max (with_rows self.old rows.old.rows)).rows }
+        ensures width { rows.new.width ≡ length self.new.columns }
+    {
+        reduce_lifted(&mut self.cols, rows, max);
     }
 }
 

@@ -1,19 +1,14 @@
-use Rattle.std.proofs.Common.{◌≡◌, ℕ, ◌+◌, ◌^◌, ◌≤◌, [], ◌∷◌, ◌++◌, length, ℤ, pos, ◌+ℤ◌, ◌-ℤ◌, ◌*ℤ◌, unsigned_abs, SFits, to_z, of_z, to_z-of_z, sum_by, ap, ◌∙◌, sym, arith}
+use Rattle.std.proofs.Common.{◌≡◌, ℕ, ◌^◌, ◌≤◌, [], ◌∷◌, ◌++◌, length, ℤ, ◌+ℤ◌, ◌-ℤ◌, unsigned_abs, SFits, to_z, of_z, to_z-of_z, sum_by, ap, ◌∙◌, arith}
 use Rattle.std.proofs.lemmas.Int.{ints}
 use mir.Syntax.{w64, w128}
-use Rattle.set_rules.specs.Sum.{total, magnitude}
-use Rattle.set_rules.specs.Columns.{entry, column_entry, tabulate}
 use Rattle.set_rules.specs.Round.{rnd, residue, ceil_s}
-use Rattle.set_rules.specs.Zono.{Zono}
 use Rattle.set_rules.specs.Strip.{raw_output, raw_coefficient, strip_row, output_slack}
-use Rattle.set_rules.proofs.Sums.{total-zero, total-more}
 use Rattle.set_rules.proofs.ImageSets.{length-tabulate}
 use Rattle.set_rules.proofs.StripHolds.{strip-keeps}
-use Rattle.fixed_mat.proofs.Bits.{back, sum_back, next_sum}
-use Rattle.fixed_mat.proofs.Columns.{pushes}
-use Rattle.fixed_mat.proofs.Fits.{total-prefix}
+use Rattle.fixed_mat.proofs.Bits.{back, sum_back}
 use Rattle.zono_set.proofs.Bound.{sum_by-tabulate}
-use Rattle.zono_set.proofs.Steps.{first_row, left_back, ok_unless, difference_back}
+use Rattle.fixed_mat.proofs.Bits.{ok_unless}
+use Rattle.zono_set.proofs.Steps.{left_back, difference_back}
 use Rattle.zono_set.proofs.zono.Zono.fill_strip_row.Given.{Over}
 use Rattle.zono_set.proofs.zono.Zono.fill_strip_row.Goals as goal
 use Rattle.zono_set.proofs.zono.Zono.fill_strip_row.Goals.{After-from}

@@ -1,4 +1,4 @@
-use Rattle.std.proofs.Common.{◌≤◌, ◌^◌, length, ℤ, ◌+ℤ◌, ◌-ℤ◌, unsigned_abs, SFits, to_z-of_z, ap, ◌∙◌, sym, subst, arith}
+use Rattle.std.proofs.Common.{◌≤◌, length, ℤ, ◌+ℤ◌, ◌-ℤ◌, unsigned_abs, SFits, to_z-of_z, ap, ◌∙◌, sym, subst, arith}
 use Rattle.std.proofs.lemmas.Int.{ints}
 use mir.Syntax.{w128}
 use Rattle.set_rules.specs.Zono.{Zono, reach}

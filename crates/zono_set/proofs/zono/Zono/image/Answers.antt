@@ -1,4 +1,4 @@
-use Rattle.std.proofs.Common.{◌≡◌, ℕ, ◌+◌, ◌<◌, ◌≤◌, ◌++◌, [], length, get_or, ℤ, pos, ◌+ℤ◌, ◌*ℤ◌, ◌≤ℤ◌, true, refl, ap, ◌∙◌, mul-one, sym, subst, arith}
+use Rattle.std.proofs.Common.{◌≡◌, ℕ, ◌+◌, ◌<◌, ◌≤◌, ◌++◌, [], length, get_or, pos, ◌+ℤ◌, ◌≤ℤ◌, true, refl, ap, ◌∙◌, mul-one, sym, subst, arith}
 use Rattle.std.proofs.lemmas.Int.{ints}
 use Rattle.set_rules.specs.Sum.{total, magnitude}
 use Rattle.set_rules.specs.Columns.{at, entry, row_magnitude}

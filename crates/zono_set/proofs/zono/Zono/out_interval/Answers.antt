@@ -1,8 +1,6 @@
-use Rattle.std.proofs.Common.{◌≡◌, ℕ, ◌^◌, ◌≤◌, length, ℤ, ◌+ℤ◌, ◌-ℤ◌, ◌*ℤ◌, unsigned_abs, SFits, to_z, of_z, to_z-of_z, ap, ◌∙◌, sym, subst, arith}
+use Rattle.std.proofs.Common.{◌≡◌, ◌^◌, ◌≤◌, ℤ, ◌+ℤ◌, ◌-ℤ◌, unsigned_abs, SFits, to_z, of_z, to_z-of_z, ap, ◌∙◌, sym, subst, arith}
 use Rattle.std.proofs.lemmas.Int.{ints}
 use mir.Syntax.{w64, w128}
-use Rattle.set_rules.specs.Sum.{total, magnitude}
-use Rattle.set_rules.specs.Columns.{entry, column_entry}
 use Rattle.set_rules.specs.Round.{rnd, residue, ceil_s}
 use Rattle.set_rules.specs.Zono.{Zono, zono_of}
 use Rattle.set_rules.specs.Strip.{raw_output, output_size, output_residue, half_width, out_interval as out_interval_of, output_slack}

@@ -1,4 +1,4 @@
-use Rattle.std.proofs.Common.{◌≡◌, ◌+◌, ◌^◌, ◌≤◌, ◌<◌, length, get_or, pos, ◌+ℤ◌, ◌*ℤ◌, unsigned_abs, SFits, to_z, refl, ap, ◌∙◌, sym, arith}
+use Rattle.std.proofs.Common.{◌≡◌, ◌+◌, ◌^◌, ◌≤◌, ◌<◌, length, get_or, pos, ◌+ℤ◌, ◌*ℤ◌, unsigned_abs, SFits, to_z, ap, ◌∙◌, sym, arith}
 use Rattle.std.proofs.lemmas.Int.{ints}
 use mir.Syntax.{w64, w128}
 use Rattle.set_rules.specs.Sum.{magnitude}

@@ -1,7 +1,6 @@
 use Rattle.std.proofs.Common.{◌≡◌, ℕ, ◌<◌, ◌≤◌, ◌++◌, true, ◌&&◌, int_le, if◌then◌else◌, take, List, length, ℤ, pos, ◌+ℤ◌, ◌-ℤ◌, ◌*ℤ◌, unsigned_abs, to_z, of_z, mul-one, ap, ◌∙◌, sym, subst, arith}
 use Rattle.std.proofs.lemmas.Int.{ints}
 use mir.Syntax.{w128}
-use Rattle.set_rules.specs.Symbols.{diagonal}
 use Rattle.set_rules.specs.Columns.{at, column_entry, row_magnitude, tabulate}
 use Rattle.set_rules.specs.Round.{rnd}
 use Rattle.set_rules.specs.Rows.{Row}
@@ -11,7 +10,7 @@ use Rattle.set_rules.proofs.ImageSets.{length-tabulate, get_or-tabulate}
 use Rattle.set_rules.proofs.SubstitutionHolds.{new_centre-in_range, new_entry-in_range, radius-in_range, substitution-parts, substitution-keeps}
 use Rattle.fixed_mat.proofs.Bits.{back}
 use Rattle.fixed_mat.proofs.Columns.{tabulate-same}
-use Rattle.girard_reduce.proofs.Reduced.{same_column}
+use Rattle.girard_reduce.proofs.Reduced.{same_box}
 use Rattle.zono_set.specs.Holds.{HoldsRow}
 use Rattle.zono_set.specs.Used.{used_where}
 use Rattle.zono_set.proofs.Steps.{filled-all}
@@ -148,8 +147,7 @@ made g c =
     (c.take_rest.ensures ∙ ap (λ n. tabulate n left) (c.pad.ensures.len ∙ c.len.ensures.value)
     ∙ tabulate-same (length c.args.a.now) left taken (λ t l. tabulate-same g.row.N (λ i. column_entry c.look_ahead.new.rest t i) (λ i. column_entry c.self.inside.cols i t -ℤ rnd (at c.args.gain.now i *ℤ at c.args.a.now t)) (λ i h. rest_is g first i h t l)))
     (c.push_radii.ensures ∙ ap (λ (xs : List (List ℤ)). c.take_rest.new.cols ++ xs)
-    (tabulate-same g.row.N (λ j. tabulate g.row.N (λ i. diagonal (at c.deref-3.result.now) i j)) (λ j. tabulate g.row.N (λ i. diagonal r i j))
-    (λ j h. same_column g.row.N j (at c.deref-3.result.now) r (ap (λ xs. at xs j) is ∙ get_or-tabulate g.row.N r j (pos 0) h))))
+    (same_box g.row.N (at c.deref-3.result.now) r (λ j h. ap (λ xs. at xs j) is ∙ get_or-tabulate g.row.N r j (pos 0) h)))
     ∙ ap (substitution g.row.N c.args.gain.now (row g (here g first))) c.self.view_is
 
 pub invariant_of-self-2 : goal.invariant_of-self-2

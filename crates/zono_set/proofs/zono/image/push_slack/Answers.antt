@@ -1,5 +1,4 @@
-use Rattle.std.proofs.Common.{◌≡◌, ℤ, ap, ◌∙◌, arith}
-use Rattle.std.proofs.lemmas.Int.{ints}
+use Rattle.std.proofs.Common.{ℤ, ap, arith}
 use Rattle.set_rules.specs.Columns.{at, tabulate}
 use Rattle.set_rules.specs.Symbols.{diagonal}
 use Rattle.zono_set.proofs.Steps.{back64}

@@ -3,7 +3,7 @@ use Rattle.std.proofs.lemmas.Int.{ints, unsigned_abs-mul}
 use mir.Syntax.{w128}
 use Rattle.set_rules.specs.Sum.{magnitude}
 use Rattle.fixed_mat.proofs.Bits.{back, sum_back}
-use Rattle.zono_set.proofs.Steps.{back64, abs64}
+use Rattle.zono_set.proofs.Steps.{back64}
 use Rattle.zono_set.proofs.zono.unrounded.widened_size.Goals as goal
 use Rattle.zono_set.proofs.zono.unrounded.widened_size.Goals.{After-from-2}
 
