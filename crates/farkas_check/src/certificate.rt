@@ -1,7 +1,9 @@
 //! Why a model is excluded at a sample.
-ghost use Rattle.std.specs.Prelude.{◌≡◌, ℕ, ◌<◌, ◌≤◌, ◌++◌, true, length, take, Some, None, option_map, if◌then◌else◌};
+ghost use Rattle.std.specs.Prelude.{◌≡◌, ◌<◌, ◌≤◌, true, length, take, Some, None, option_map, if◌then◌else◌};
 ghost use Rattle.std.specs.Prelude.{slice_index_or, pos, unsigned_abs};
 ghost use Rattle.farkas_check.specs.Multipliers.{are_multipliers, are_small};
+
+use crate::factors::Factors;
 
 /// The most multipliers: one for each row that can be kept.
 const MOST: usize = 6;
@@ -18,6 +20,7 @@ pub struct Multipliers {
 
 impl Multipliers {
     ghost use Rattle.farkas_check.specs.Certificate.{list_of};
+    ghost use Rattle.set_rules.specs.Farkas.{unit_list, pair_list};
 
     /// These multipliers, or none where their number or one of them is outside its limit.
     pub fn of(list: &[i32]) -> Option<Multipliers>
@@ -32,6 +35,38 @@ impl Multipliers {
             values,
             count: list.len(),
         })
+    }
+
+    /// 1 at row `r` alone of `count` rows.
+    pub(crate) fn unit(count: usize, r: usize) -> Multipliers
+        requires few { count ≤ 6 }
+        requires row { r < count }
+        ensures { list_of result ≡ unit_list count r }
+    {
+        let mut values = [0; 6];
+        values[r] = 1;
+        Multipliers { values, count }
+    }
+
+    /// Those of rows `r` and `s`, and 0 at the others of `count` rows.
+    pub(crate) fn pair(count: usize, r: usize, s: usize, by: Factors) -> Multipliers
+        requires few { count ≤ 6 }
+        requires order { r < s }
+        requires rows { s < count }
+        ensures { list_of result ≡ pair_list count r s by.first by.second }
+    {
+        let mut values = [0; 6];
+        values[r] = by.first;
+        values[s] = by.second;
+        Multipliers { values, count }
+    }
+
+    /// All of them, in the order of the rows.
+    pub fn list(&self) -> &[i32]
+        ensures value { result.now ≡ list_of self.now }
+        ensures multipliers { are_multipliers result.now ≡ true }
+    {
+        &self.values[..self.count]
     }
 
     /// How many there are.

@@ -1,0 +1,31 @@
+use Rattle.std.proofs.Common.{◌≡◌, ℕ, ◌+◌, ℤ, max, nat_eq, if◌then◌else◌, unsigned_abs, SFits, to_z-of_z, ◌∙◌, refl, add-one}
+use mir.Syntax.{w128}
+use Rattle.set_rules.specs.Columns.{at}
+use Rattle.farkas_check.specs.Two.{own_of}
+use Rattle.farkas_check.proofs.pair.Own.of.Goals as goal
+
+none : (a b : ℕ → ℤ) → 0 ≡ own_of 0 a b
+unfolding own_of
+none a b = refl
+
+-- one more column
+more : (n most next : ℕ) (u v : ℤ) (a b : ℕ → ℤ) → next ≡ max most (if nat_eq (unsigned_abs v) 0 then unsigned_abs u else 0)
+    → most ≡ own_of n a b → u ≡ a n → v ≡ b n → next ≡ own_of (n + 1) a b
+unfolding own_of
+more n most next u v a b is before e f = rw add-one (is ∙ (λ i. max (before i) (if nat_eq (unsigned_abs (f i)) 0 then unsigned_abs (e i) else 0)))
+
+pub loop-t-init : goal.loop-t-init
+loop-t-init c = record { first = none _ _; second = none _ _ }
+
+pub loop-t-preserved : goal.loop-t-preserved
+loop-t-preserved c =
+    let first : SFits w128 c.at.result = record { sfits = c.at.type_inv } in
+    let other : SFits w128 c.at-in-loop-t.result = record { sfits = c.at-in-loop-t.type_inv } in
+    let second : SFits w128 c.at-in-loop-t-2.result = record { sfits = c.at-in-loop-t-2.type_inv } in
+    let another : SFits w128 c.at-in-loop-t-3.result = record { sfits = c.at-in-loop-t-3.type_inv } in
+    record {
+      first = more c.loop-t.t c.loop-t.first c.with_own-first.result _ _ (at c.args.a.now) (at c.args.b.now) c.with_own-first.ensures c.loop-t.invariant.first
+          (to_z-of_z first ∙ c.at.ensures.value) (to_z-of_z other ∙ c.at-in-loop-t.ensures.value);
+      second = more c.loop-t.t c.loop-t.second c.with_own-second.result _ _ (at c.args.b.now) (at c.args.a.now) c.with_own-second.ensures c.loop-t.invariant.second
+          (to_z-of_z second ∙ c.at-in-loop-t-2.ensures.value) (to_z-of_z another ∙ c.at-in-loop-t-3.ensures.value);
+    }
