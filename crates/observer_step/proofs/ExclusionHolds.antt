@@ -2,6 +2,7 @@
 use Rattle.std.proofs.Common.{◌≡◌, ℕ, zero, suc, ◌<◌, List, ◌++◌, Option, Some, None, IfSome, Bool, true, false, ◌+ℤ◌, refl, sym, ap, ◌∙◌, arith}
 use Rattle.std.proofs.lemmas.List.{get_or_append_left}
 use Rattle.set_rules.specs.Columns.{at}
+use Rattle.set_rules.specs.Zono.{Zono, Inside}
 use Rattle.set_rules.specs.Strip.{Reads}
 use Rattle.set_rules.specs.Tests.{first_below, last_passing, or_else}
 use Rattle.set_rules.proofs.ReadingsHold.{hull-holds, readings-meet}
@@ -26,25 +27,26 @@ first-found (suc n) test o e = by (first_below n test) (test n) refl (λ (f : fi
     by None true t earlier f e = let same : n ≡ o = cc in (omega arith, ap test (sym same) ∙ t)
     by None false t earlier f e = absurd cc
 
-module _ (p : Plant) (samples : List Sample) (k : ℕ) (x : Trajectory) (obeys : Obeys p samples k x) where
+-- no reading of a point of the set misses what the set predicts
+module _ (p : Plant) (samples : List Sample) (k : ℕ) (x : Trajectory) (obeys : Obeys p samples k x) (z : Zono) (inside : Inside p.states z (states_at x k) x.denominator) where
   abbrev s : Sample
   s = sample_at samples k
 
   reading-kept : (o : ℕ) (r : Option Present) → IfSome r (λ r. Reads p.states (output_row p o) (through_of p s.inputs o) x.denominator (states_at x k) r.value (at p.noise o +ℤ r.slack))
-      → reading_misses (out_of p s.inputs (predicted_set p samples k) o) r ≡ false
+      → reading_misses (out_of p s.inputs z o) r ≡ false
   reading-kept o None reads = refl
-  reading-kept o (Some r) reads = readings-meet p.states x.denominator (output_row p o) (through_of p s.inputs o) r.value (at p.noise o) r.slack (predicted_set p samples k) (states_at x k) obeys.positive (ready-holds_whole p samples k x obeys) reads
+  reading-kept o (Some r) reads = readings-meet p.states x.denominator (output_row p o) (through_of p s.inputs o) r.value (at p.noise o) r.slack z (states_at x k) obeys.positive inside reads
 
-  none-due : (o : ℕ) → due p s (predicted_set p samples k) ≡ Some o → ⊥
+  pub none-missed : (o : ℕ) → due p s z ≡ Some o → ⊥
   unfolding due
-  none-due o e =
-      let found = first-found p.outputs (λ o. reading_misses (out_of p s.inputs (predicted_set p samples k) o) (reading_at s o)) o e in
+  none-missed o e =
+      let found = first-found p.outputs (λ o. reading_misses (out_of p s.inputs z o) (reading_at s o)) o e in
       let kept = reading-kept o (reading_at s o) (obeys.reads k (omega arith) o found.0) in
       cc
 
 -- a model of which a reading misses its predicted interval has no trajectory
 pub due-has_none : DueHasNone
-due-has_none p samples k o e (x, obeys) = none-due p samples k x obeys o e
+due-has_none p samples k o e (x, obeys) = none-missed p samples k x obeys (predicted_set p samples k) (ready-holds_whole p samples k x obeys) o e
 
 -- a trajectory up to a sample is one up to each sample before
 pub excluded-stays : ExcludedStays

@@ -11,7 +11,7 @@ use Rattle.plant_model.specs.Plant.{Plant, shift_of}
 use Rattle.observer_step.specs.Estimate.{trim, image_of, leaves_range, state_box, predict, predicted_set, is_widened, Estimate, LeadsOn}
 
 -- a set that reaches past the range fails its test
-past-fails : (n : ℕ) (z : Zono) (i : ℕ) (mag : ℤ) → i < n → IsFirstPast z i mag → in_range n z ≡ false
+pub past-fails : (n : ℕ) (z : Zono) (i : ℕ) (mag : ℤ) → i < n → IsFirstPast z i mag → in_range n z ≡ false
 past-fails n z i mag h first = by (in_range n z) refl
   where
     by : (b : Bool) → in_range n z ≡ b → b ≡ false

@@ -9,3 +9,7 @@ pub mod Judged
 pub mod Intervals
 pub mod FirstReadings
 pub mod Offered
+pub mod RowsAligned
+pub mod BothImaged
+pub mod SetsHold
+pub mod Chosen

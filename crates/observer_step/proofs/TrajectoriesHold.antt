@@ -19,7 +19,7 @@ use Rattle.observer_step.proofs.CorrectionHolds.{plain-keeps}
 
 module _ (p : Plant) (s : Sample) (x : List ℤ) (q : ℕ) (positive : 1 ≤ q) where
   -- each reading of the first m outputs is one of the point
-  abbrev ReadsAll : ℕ → Type 0
+  abbrev pub ReadsAll : ℕ → Type 0
   ReadsAll m = (o : ℕ) → o < m → IfSome (reading_at s o) (λ r. Reads p.states (output_row p o) (through_of p s.inputs o) q x r.value (at p.noise o +ℤ r.slack))
 
   reading-keeps : (o : ℕ) (reading : Option Present) (z : Zono) → IfSome reading (λ r. Reads p.states (output_row p o) (through_of p s.inputs o) q x r.value (at p.noise o +ℤ r.slack)) → Inside p.states z x q
@@ -28,7 +28,7 @@ module _ (p : Plant) (s : Sample) (x : List ℤ) (q : ℕ) (positive : 1 ≤ q) 
   reading-keeps o None z reads inside = inside
   reading-keeps o (Some r) z reads inside = plain-keeps p.states q (output_row p o) (through_of p s.inputs o) r.value (at p.noise o +ℤ r.slack) z x positive inside reads
 
-  readings-keep : (m : ℕ) (z : Zono) → ReadsAll m → Inside p.states z x q → Inside p.states (corrected_after p s m z) x q
+  pub readings-keep : (m : ℕ) (z : Zono) → ReadsAll m → Inside p.states z x q → Inside p.states (corrected_after p s m z) x q
   unfolding corrected_after
   readings-keep zero z reads inside = inside
   readings-keep (suc m) z reads inside = reading-keeps m (reading_at s m) (corrected_after p s m z) (reads m (omega arith)) (readings-keep m z (λ o l. reads o (omega arith)) inside)
@@ -37,7 +37,7 @@ module _ (p : Plant) (s : Sample) (x : List ℤ) (q : ℕ) (positive : 1 ≤ q) 
 
 module _ (p : Plant) (u : List ℤ) (x x' v : List ℤ) (q : ℕ) (positive : 1 ≤ q) (step : IsStep p.states p.disturbances p.a (shift_of p u) p.e q x x' v)
     (bounded : (i : ℕ) → i < p.states → magnitude (at x' i) ≤ℤ (pos q *ℤ at p.state_max i)) where
-  in-state_box : Inside p.states (state_box p) x' q
+  pub in-state_box : Inside p.states (state_box p) x' q
   in-state_box = box-holds p.states q (replicate p.states (pos 0)) p.state_max x' positive
       (λ i l. from_zero q (at x' i) (at (replicate p.states (pos 0)) i) (pos q *ℤ at p.state_max i) (get_or-replicate p.states i (pos 0) (pos 0) l) (bounded i l))
     where
@@ -55,14 +55,14 @@ module _ (p : Plant) (u : List ℤ) (x x' v : List ℤ) (q : ℕ) (positive : 1 
 -- ---- all samples
 
 -- x obeys the samples before k, and its bounds at k
-record ObeysBefore (p : Plant) (samples : List Sample) (k : ℕ) (x : Trajectory) : Type 0 where
-  positive : 1 ≤ x.denominator
-  starts : (i : ℕ) → i < p.states → magnitude (at (states_at x 0) i -ℤ pos x.denominator *ℤ at p.centre i) ≤ℤ (pos x.denominator *ℤ at p.radius i)
-  moves : (j : ℕ) → j < k → IsStep p.states p.disturbances p.a (shift_of p (sample_at samples j).inputs) p.e x.denominator (states_at x j) (states_at x (j + 1)) (disturbances_at x j)
-  reads : (j : ℕ) → j < k → ReadsAll p (sample_at samples j) (states_at x j) x.denominator positive p.outputs
-  bounded : (j : ℕ) → j ≤ k → (i : ℕ) → i < p.states → magnitude (at (states_at x j) i) ≤ℤ (pos x.denominator *ℤ at p.state_max i)
+pub record ObeysBefore (p : Plant) (samples : List Sample) (k : ℕ) (x : Trajectory) : Type 0 where
+  pub positive : 1 ≤ x.denominator
+  pub starts : (i : ℕ) → i < p.states → magnitude (at (states_at x 0) i -ℤ pos x.denominator *ℤ at p.centre i) ≤ℤ (pos x.denominator *ℤ at p.radius i)
+  pub moves : (j : ℕ) → j < k → IsStep p.states p.disturbances p.a (shift_of p (sample_at samples j).inputs) p.e x.denominator (states_at x j) (states_at x (j + 1)) (disturbances_at x j)
+  pub reads : (j : ℕ) → j < k → ReadsAll p (sample_at samples j) (states_at x j) x.denominator positive p.outputs
+  pub bounded : (j : ℕ) → j ≤ k → (i : ℕ) → i < p.states → magnitude (at (states_at x j) i) ≤ℤ (pos x.denominator *ℤ at p.state_max i)
 
-taken-before : (p : Plant) (samples : List Sample) (k : ℕ) (x : Trajectory) → Obeys p (take k samples) k x → ObeysBefore p samples k x
+pub taken-before : (p : Plant) (samples : List Sample) (k : ℕ) (x : Trajectory) → Obeys p (take k samples) k x → ObeysBefore p samples k x
 taken-before p samples k x obeys =
     let same : (j : ℕ) → j < k → sample_at (take k samples) j ≡ sample_at samples j = λ j l. get_or-take k samples j no_sample l in
     record {
@@ -73,7 +73,7 @@ taken-before p samples k x obeys =
       bounded = obeys.bounded;
     }
 
-whole-before : (p : Plant) (samples : List Sample) (k : ℕ) (x : Trajectory) → Obeys p samples k x → ObeysBefore p samples k x
+pub whole-before : (p : Plant) (samples : List Sample) (k : ℕ) (x : Trajectory) → Obeys p samples k x → ObeysBefore p samples k x
 whole-before p samples k x obeys = record {
   positive = obeys.positive;
   starts = obeys.starts;

@@ -6,3 +6,6 @@ pub mod Laws
 pub mod Ahead
 pub mod Missed
 pub mod Offers
+pub mod Sets
+pub mod SetsLaws
+pub mod SetsAnswers

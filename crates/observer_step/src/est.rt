@@ -191,7 +191,7 @@ impl<const N: usize> Est<N> {
 }
 
 /// The box in which the plant starts.
-fn first_box<const N: usize>(plant: &Plant<N>) -> Zono<N>
+pub fn first_box<const N: usize>(plant: &Plant<N>) -> Zono<N>
     ensures value { result ≡ first_set plant.now }
     ensures room { length result.columns ≤ image_columns }
 {
@@ -200,7 +200,7 @@ fn first_box<const N: usize>(plant: &Plant<N>) -> Zono<N>
 }
 
 /// The box of the plant's state bounds.
-fn state_box<const N: usize>(plant: &Plant<N>) -> Zono<N>
+pub fn state_box<const N: usize>(plant: &Plant<N>) -> Zono<N>
     ensures value { result ≡ state_box_of plant.now }
     ensures room { length result.columns ≤ image_columns }
 {

@@ -12,18 +12,31 @@ ghost use Rattle.observer_step.specs.Laws.{
   ExcludedStays,
   LaterChangesNothing,
 };
+ghost use Rattle.observer_step.specs.SetsLaws.{
+  PredictedSetsHold,
+  CorrectedSetsHold,
+  SetsHullContains,
+  MissedHasNone,
+  RefutedHasNone,
+  LaterSetsChangeNothing,
+};
+ghost use Rattle.observer_step.specs.SetsAnswers.{CertificateIsChosen};
 
 mod ahead;
 mod est;
 mod inputs;
 mod offer;
 mod outcome;
+mod pair;
 mod pass;
 mod readings;
 mod room;
+mod rows;
 
 pub use est::Est;
 pub use outcome::{Judgement, Kept, NotJustified, Outcome, Unjustified};
+pub use pair::SetPair;
+pub use pass::Passed;
 pub use room::Room;
 
 /// How many columns a set keeps between samples.
@@ -40,4 +53,16 @@ pub fn laws()
     ensures excluded { DueHasNone }
     ensures stays { ExcludedStays }
     ensures later { LaterChangesNothing }
+{}
+
+/// The laws of a plain set and one with rows side by side: every trajectory is in both, for all kept rows by one choice of
+/// symbols; where a reading misses, or multipliers refute the kept rows, there is none.
+pub fn laws_of_sets()
+    ensures predicted { PredictedSetsHold }
+    ensures corrected { CorrectedSetsHold }
+    ensures hull { SetsHullContains }
+    ensures missed { MissedHasNone }
+    ensures refuted { RefutedHasNone }
+    ensures later { LaterSetsChangeNothing }
+    ensures chosen { CertificateIsChosen }
 {}

@@ -2,21 +2,33 @@
 
 ghost use Rattle.std.specs.Prelude.{◌≡◌, option_map};
 ghost use Rattle.farkas_check.specs.Certificate.{by_out, certificate_of};
-ghost use Rattle.observer_step.specs.Answers.{is_justified, refutes_none};
+ghost use Rattle.set_rules.specs.Farkas.{passes as passes_of};
+ghost use Rattle.observer_step.specs.Answers.{is_justified as is_justified_of, refutes_none};
 ghost use Rattle.observer_step.specs.Offers.{offers_output};
 ghost use Rattle.observer_step.specs.Seen.{certificate_in};
 
 use crate::Outcome;
-use farkas_check::Cert;
+use farkas_check::{Cert, passes};
+use fixed_mat::Rows;
 
 /// Whether what is offered is justified where this output is due, or none. No rows are kept, so no multipliers are.
 pub fn is_justified(due: Option<u32>, offered: &Option<Cert>) -> bool
-    ensures { result ≡ is_justified due refutes_none (option_map certificate_of offered.now) }
+    ensures { result ≡ is_justified_of due refutes_none (option_map certificate_of offered.now) }
 {
     match (due, offered) {
         (None, None) => true,
         (Some(o), Some(Cert::Out(p))) => *p == o,
         _ => false,
+    }
+}
+
+/// Whether what is offered is justified where this output is due, or none, and these rows are kept.
+pub fn is_justified_by(due: Option<u32>, rows: &Rows, offered: &Option<Cert>) -> bool
+    ensures { result ≡ is_justified_of due (passes_of rows.now.width rows.now.rows) (option_map certificate_of offered.now) }
+{
+    match (due, offered) {
+        (None, Some(Cert::Rows(multipliers))) => passes(rows, multipliers.list()),
+        _ => is_justified(due, offered),
     }
 }
 

@@ -1,0 +1,237 @@
+//! The two sets of one model: a plain one, and one that keeps its latest readings as rows.
+
+ghost use Rattle.std.specs.Prelude.{IsTrue, ◌≡◌, ◌+◌, ◌<◌, ◌≤◌, ◌&&◌, not, [], true, length, is_none, option_map, unsigned_abs, if◌then◌else◌};
+ghost use Rattle.std.specs.List.{list_all};
+ghost use Rattle.set_rules.specs.Box.{hull as hull_of};
+ghost use Rattle.set_rules.specs.Keep.{without_rows};
+ghost use Rattle.set_rules.specs.Limits.{input_limit, constrained_columns};
+ghost use Rattle.set_rules.specs.Zono.{range};
+ghost use Rattle.plant_model.specs.Plant.{AllWithinLimit};
+ghost use Rattle.plant_model.specs.Seen.{sample_of};
+ghost use Rattle.observer_step.specs.Predicted.{predicted_outs, due};
+ghost use Rattle.set_rules.specs.Farkas.{first_candidate as first_candidate_of};
+ghost use Rattle.farkas_check.specs.Certificate.{certificate_of};
+ghost use Rattle.observer_step.specs.Seen.{was_widened, certificate_in, is_printable_interval};
+ghost use Rattle.observer_step.specs.SetsAnswers.{certificate_by, certificate_of_sets, sets_offered, SetsAnswer};
+ghost use Rattle.observer_step.specs.Offers.{outs_in, answer_in};
+ghost use Rattle.observer_step.specs.Estimate.{image_of, trim, state_box as state_box_of, image_columns};
+ghost use Rattle.observer_step.specs.Sets.{first_sets, either_leaves, predict_sets, correct_sets_if, SetsReady};
+ghost use Rattle.observer_step.specs.Sets.{settle, constrained_image};
+
+use crate::est::{first_box, state_box};
+use crate::inputs::shift;
+use crate::offer::{is_justified_by, offers_output, outcome_by};
+use crate::pass::{Passed, pass_over};
+use crate::room::Room;
+use crate::rows::keep_readings;
+use crate::{Judgement, Kept, NotJustified, PLAIN_COLUMNS, Unjustified};
+use czono_set::Czono;
+use farkas_check::{Cert, first_candidate};
+use fixed_mat::Rows;
+use plant_model::{Plant, Sample};
+use std::marker::Model;
+use zono_set::{Refusals, Zono};
+
+/// Two sets in which the state of a plant of `N` states lies at a sample: a plain one, and one whose symbols also satisfy
+/// the rows of the latest readings (after Combastel 2003; Scott, Raimondo, Marseglia and Braatz 2016).
+#[derive(Drop)]
+pub struct SetPair<const N: usize> {
+    plain: Zono<N>,
+    constrained: Czono<N>,
+    /// How the plain set fared with the latest rows; no part of the value.
+    refusals: Refusals,
+    /// How the other fared with the rows that were taken out; no part of the value.
+    dropped: Refusals,
+}
+
+impl<const N: usize> Model for SetPair<N> {
+    ghost use Rattle.observer_step.specs.Sets.{Sets, HaveRoom};
+
+    ghost Value = { Sets };
+
+    ghost view = { λ e. record { plain = e.plain; constrained = e.constrained } };
+
+    ghost invariant = { λ e. HaveRoom (record { plain = e.plain; constrained = e.constrained }) };
+}
+
+impl<const N: usize> SetPair<N> {
+    /// The sets in which the plant starts; no rows are kept yet.
+    pub fn begin(plant: &Plant<N>) -> SetPair<N>
+        ensures sets { result ≡ first_sets plant.now }
+        ensures ready { SetsReady plant.now [] result }
+    {
+        SetPair {
+            plain: first_box(plant),
+            constrained: Czono::of(first_box(plant)),
+            refusals: Refusals::new(),
+            dropped: Refusals::new(),
+        }
+    }
+
+    /// One sample on with the inputs `u` of the last sample, in nano-units. `Widened` where the image of either set
+    /// leaves the range: both are then the state box, and no row is kept.
+    pub fn predict(&mut self, plant: &Plant<N>, u: &[i128]) -> Kept
+        requires count { length u.now ≡ plant.now.inputs }
+        requires small { AllWithinLimit input_limit u.now }
+        ensures sets { self.new ≡ predict_sets plant.now u.now self.old }
+        ensures kept { was_widened result ≡ either_leaves plant.now u.now self.old }
+    {
+        let _ = plant.states();
+        if take_images(&mut self.plain, &mut self.constrained, plant, u) {
+            self.constrained.settle();
+            return Kept::Imaged;
+        }
+        box_both(&mut self.plain, &mut self.constrained, plant);
+        Kept::Widened
+    }
+
+    /// Compares a sample with what the plain set predicts. Where no output is due, both sets take the readings if they are wanted.
+    pub fn pass(
+        &mut self,
+        plant: &Plant<N>,
+        sample: &Sample,
+        room: &mut Room,
+        wanted: bool,
+    ) -> Passed
+        requires inputs { length sample.now.u.items ≡ plant.now.inputs }
+        requires outputs { length sample.now.y.items ≡ plant.now.outputs }
+        ensures outs { result.outs.items ≡ predicted_outs plant.now sample.now.u.items self.old.plain }
+        ensures printable { list_all is_printable_interval result.outs.items ≡ true }
+        ensures due { result.due ≡ due plant.now (sample_of sample.now) self.old.plain }
+        ensures sets { self.new ≡ correct_sets_if (wanted && is_none result.due) plant.now (sample_of sample.now) self.old }
+    {
+        let passed = pass_over(
+            &mut self.plain,
+            &mut self.refusals,
+            room,
+            plant,
+            sample,
+            wanted,
+        );
+        if wanted && passed.due.is_none() {
+            keep_readings(
+                &mut self.constrained,
+                &mut self.dropped,
+                room,
+                plant,
+                sample,
+            );
+        }
+        passed
+    }
+
+    /// What the sample says of the model, in room that is lent: the due certificate names the least output that misses, and the
+    /// sets stay. Where none is due both take the readings, and the first candidate that refutes the kept rows is the certificate.
+    pub fn judge(&mut self, plant: &Plant<N>, sample: &Sample, room: &mut Room) -> Judgement
+        requires inputs { length sample.now.u.items ≡ plant.now.inputs }
+        requires outputs { length sample.now.y.items ≡ plant.now.outputs }
+        ensures outs { result.outs.items ≡ predicted_outs plant.now sample.now.u.items self.old.plain }
+        ensures printable { list_all is_printable_interval result.outs.items ≡ true }
+        ensures outcome { certificate_in result.outcome ≡ certificate_of_sets plant.now (sample_of sample.now) self.old }
+        ensures sets { self.new
+            ≡ correct_sets_if (is_none (due plant.now (sample_of sample.now) self.old.plain)) plant.now (sample_of sample.now) self.old }
+    {
+        let Passed { outs, due } = self.pass(plant, sample, room, true);
+        let outcome = outcome_by(certificate(due, self.rows()));
+        Judgement { outs, outcome }
+    }
+
+    /// The same by a certificate that is offered, or by none, where that is justified; else the answer is why not. The sets take
+    /// the readings where no output is due and none is offered, and else they stay.
+    pub fn judge_with(
+        &mut self,
+        plant: &Plant<N>,
+        sample: &Sample,
+        room: &mut Room,
+        offered: Option<Cert>,
+    ) -> Result<Judgement, Unjustified>
+        requires inputs { length sample.now.u.items ≡ plant.now.inputs }
+        requires outputs { length sample.now.y.items ≡ plant.now.outputs }
+        ensures outs { outs_in result ≡ predicted_outs plant.now sample.now.u.items self.old.plain }
+        ensures printable { list_all is_printable_interval (outs_in result) ≡ true }
+        ensures outcome { SetsAnswer plant.now (sample_of sample.now) self.old offered (answer_in result) }
+        ensures sets { self.new
+            ≡ sets_offered plant.now (sample_of sample.now) self.old (option_map certificate_of offered) }
+    {
+        let wanted = !offers_output(&offered);
+        let Passed { outs, due } = self.pass(plant, sample, room, wanted);
+        if !is_justified_by(due, self.rows(), &offered) {
+            let why = NotJustified { due, offered };
+            return Err(Unjustified { outs, why });
+        }
+        let outcome = outcome_by(offered);
+        Ok(Judgement { outs, outcome })
+    }
+
+    /// The least and the greatest value of state `i`, in nano-units, by the plain set.
+    pub fn hull(&self, i: usize) -> (i128, i128)
+        requires { i < N }
+        ensures value { result ≡ hull_of self.now.plain i }
+        ensures low { unsigned_abs result.0 ≤ range }
+        ensures high { unsigned_abs result.1 ≤ range }
+    {
+        self.plain.hull(i)
+    }
+
+    /// The rows that are kept, oldest first.
+    pub fn rows(&self) -> &Rows
+        ensures rows { result.now.rows ≡ self.now.constrained.rows }
+        ensures width { result.now.width ≡ length self.now.constrained.base.columns }
+    {
+        self.constrained.rows()
+    }
+}
+
+/// The certificate of the output that is due, or else of the first candidate that refutes the rows.
+fn certificate(due: Option<u32>, rows: &Rows) -> Option<Cert>
+    ensures { option_map certificate_of result ≡ certificate_by due (first_candidate_of rows.now.width rows.now.rows) }
+{
+    match due {
+        Some(o) => Some(Cert::Out(o)),
+        None => match first_candidate(rows) {
+            Some(multipliers) => Some(Cert::Rows(multipliers)),
+            None => None,
+        },
+    }
+}
+
+/// Takes the images of both sets; whether neither leaves the range. Where one does, the sets are not to be used.
+fn take_images<const N: usize>(
+    plain: &mut Zono<N>,
+    constrained: &mut Czono<N>,
+    plant: &Plant<N>,
+    u: &[i128],
+) -> bool
+    requires count { length u.now ≡ plant.now.inputs }
+    requires small { AllWithinLimit input_limit u.now }
+    requires room { length constrained.old.base.columns ≤ constrained_columns + 1 }
+    ensures stays { result ≡ not (either_leaves plant.now u.now (record { plain = plain.old; constrained = constrained.old })) }
+    ensures plain { IsTrue result → plain.new ≡ image_of plant.now u.now (trim plant.now.states plain.old) }
+    ensures constrained { IsTrue result → constrained.new ≡ constrained_image plant.now u.now constrained.old }
+    ensures room { IsTrue result → length plain.new.columns ≤ image_columns }
+{
+    let _ = plant.states();
+    let shift = shift(plant, u);
+    plain.reduce(PLAIN_COLUMNS);
+    match plain.image(plant.a(), &shift, plant.e(), plant.dists()) {
+        Err(_) => false,
+        Ok(()) => match constrained.image(plant.a(), &shift, plant.e(), plant.dists()) {
+            Err(_) => false,
+            Ok(()) => true,
+        },
+    }
+}
+
+/// Makes both sets the state box, with no rows. Kept out of line, since room for boxes is to be made only where they are.
+#[inline(never)]
+fn box_both<const N: usize>(plain: &mut Zono<N>, constrained: &mut Czono<N>, plant: &Plant<N>)
+    ensures plain { plain.new ≡ state_box_of plant.now }
+    ensures constrained { constrained.new ≡ settle plant.now.states (without_rows (state_box_of plant.now)) }
+    ensures plain_room { length plain.new.columns ≤ image_columns }
+    ensures room { length constrained.new.base.columns ≤ constrained_columns + 1 }
+{
+    let _ = plant.states();
+    *plain = state_box(plant);
+    *constrained = Czono::of(state_box(plant));
+    constrained.settle();
+}
