@@ -36,6 +36,10 @@ abbrev pub DepartsInHead : List (List ℕ) → List ℕ → CheckFault → Type 
 DepartsInHead names bytes fault = (line : ℕ) → fault ≡ Report line
     → (ps : List Plant) (samples : List Sample) (is_whole : Bool) → DepartsAt (watch names ps samples is_whole) line bytes
 
+-- what is unread is the last line, after so many samples, and nothing else
+abbrev pub EndStands : ℕ → Window → ShelfState → Type 0
+EndStands samples w shelf = (unread : List ℕ) → HasUnread w shelf unread → unread ≡ put_text (end samples)
+
 -- what is unread is not the last line, after so many samples, and nothing behind it
 pub data EndDeparts (samples lines : ℕ) (unread : List ℕ) (line : ℕ) : Type 0 where
   missing : line ≡ lines + 1 → ((r : List ℕ) → unread ≢ put_text (end samples) ++ r) → EndDeparts samples lines unread line

@@ -1,5 +1,6 @@
 //! A check from its three files to its answer.
-ghost use Rattle.std.specs.Prelude.{◌≡◌, ℕ, ◌+◌, ◌≤◌, ◌<◌, ◌^◌, List, [], ◌++◌, length, replicate, true, false, None, Some, IfErr, IfOk, OnOk};
+ghost use Rattle.std.specs.Prelude.{◌≡◌, ℕ, ◌+◌, ◌≤◌, ◌<◌, ◌^◌, List, [], ◌++◌, length, replicate, true, false};
+ghost use Rattle.std.specs.Prelude.{None, Some, IfErr, IfOk, OnOk};
 ghost use Rattle.std.specs.Io.KnownBytes.{IsAtEnd};
 ghost use Rattle.outside_io.specs.Causes.{Rose};
 ghost use Rattle.outside_io.specs.Shelf.{IsFresh};
@@ -8,7 +9,6 @@ ghost use Rattle.telem_csv.specs.Cutter.{current};
 ghost use Rattle.telem_csv.specs.Columns.{AreFor};
 ghost use Rattle.telem_csv.specs.Fed.{is_refusal};
 ghost use Rattle.model_bank.specs.Bank.{plants_in, names_in};
-ghost use Rattle.report_text.specs.Line.{end, put_text};
 ghost use Rattle.input_files.specs.Files.{files_with, most_telemetry};
 ghost use Rattle.input_files.specs.Stream.{OnRows, ReadsOn, IsEndedAt};
 ghost use Rattle.input_files.specs.Ended.{without_last, rows_ended, begun_with};
@@ -23,7 +23,7 @@ ghost use Rattle.cert_replay.specs.Faults.{IsSampleFault};
 ghost use Rattle.cert_replay.specs.Lines.{room};
 ghost use Rattle.cert_replay.specs.Window.{HasUnread};
 ghost use Rattle.cert_replay.specs.Checked.{AreModels, Checked, IsReady};
-ghost use Rattle.cert_replay.specs.Ends.{AreNamed, HeadStands, DepartsInHead, EndDeparts, SaysOfChecked, EndsRows, EndsModels};
+ghost use Rattle.cert_replay.specs.Ends.{AreNamed, HeadStands, DepartsInHead, EndStands, EndDeparts, SaysOfChecked, EndsRows, EndsModels};
 
 use crate::counts::LineCounts;
 use crate::fault::{Accepted, CheckFault};
@@ -210,7 +210,7 @@ fn check_end<F: Shelf>(
     requires counted { window.old.lines + room + 1 < 2 ^ 64 }
     requires few { samples < 2 ^ 63 }
     ensures done { IfOk result (λ accepted. accepted.samples ≡ samples) }
-    ensures stands { OnOk result ((unread : List ℕ) → HasUnread window.old (F.state shelf.old) unread → unread ≡ put_text (end samples)) }
+    ensures stands { OnOk result (EndStands samples window.old (F.state shelf.old)) }
     ensures departs { IfErr result (λ fault. (line : ℕ) → fault ≡ CheckFault.Report line
         → (unread : List ℕ) → HasUnread window.old (F.state shelf.old) unread → EndDeparts samples window.old.lines unread line) }
     ensures at_end { OnOk result (IsAtEnd ((F.state shelf.new).slot 2).rest) }

@@ -1,14 +1,15 @@
 //! Lines that are made, beside those of the report.
-ghost use Rattle.std.specs.Prelude.{◌≡◌, ◌≢◌, ℕ, ◌+◌, ◌<◌, ◌≤◌, ◌^◌, List, [], ◌∷◌, ◌++◌, length, take, drop, map, flat_map, get_or, true, false, IfErr, OnOk};
+ghost use Rattle.std.specs.Prelude.{◌≡◌, ◌≢◌, ℕ, ◌+◌, ◌<◌, ◌≤◌, ◌^◌, List, [], ◌∷◌, ◌++◌, length, take, drop, get_or};
+ghost use Rattle.std.specs.Prelude.{true, false, IfErr, OnOk};
 ghost use Rattle.std.specs.List.{count_by};
 ghost use Rattle.observer_step.specs.Seen.{is_printable_interval};
 ghost use Rattle.model_bank.specs.Bank.{names_in};
-ghost use Rattle.model_bank.specs.Seen.{sample_seen, model_seen};
+ghost use Rattle.model_bank.specs.Seen.{sample_seen, refusal_with};
 ghost use Rattle.report_text.specs.Laws.{is_feed};
-ghost use Rattle.report_text.specs.Line.{lines_text, sample, end};
-ghost use Rattle.report_rules.specs.Lines.{head_lines, sample_lines, model_lines, pred_lines};
+ghost use Rattle.report_text.specs.Line.{lines_text, end};
+ghost use Rattle.report_rules.specs.Lines.{head_lines, sample_lines};
 ghost use Rattle.cert_replay.specs.Faults.{IsCompareFault};
-ghost use Rattle.cert_replay.specs.Lines.{room};
+ghost use Rattle.cert_replay.specs.Lines.{room, lines_to_refused};
 ghost use Rattle.cert_replay.specs.Window.{left_in, TakesText, PartsBehind, DepartsFrom, DepartsBehind};
 
 use crate::fault::CheckFault;
@@ -54,8 +55,8 @@ impl Window {
     /// that departs: one of these, or the one behind them.
     pub fn compare_refused(&mut self, k: u64, below: &[ModelRec], refused: &Refused) -> CheckFault
         requires { self.old.lines + room + 1 < 2 ^ 64 }
-        ensures departs { (line : ℕ) → result ≡ CheckFault.Report line → DepartsBehind (lines_text
-            (sample k ∷ flat_map model_lines (map model_seen below.now) ++ pred_lines refused.now.model refused.now.preds.items)) self.old line }
+        ensures departs { (line : ℕ) → result ≡ CheckFault.Report line
+            → DepartsBehind (lines_text (lines_to_refused k (refusal_with refused.now below.now))) self.old line }
         ensures fault { IsCompareFault result }
     {
         self.made.clear();

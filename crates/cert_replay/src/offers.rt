@@ -1,5 +1,6 @@
 //! The certificates that a report offers for a sample.
-ghost use Rattle.std.specs.Prelude.{◌≡◌, ℕ, ◌+◌, ◌*◌, ◌<◌, ◌≤◌, List, length, true, ◌≢◌, Some, None, IfOk, IfErr, IfSome, IfNone, OnOk, option_map};
+ghost use Rattle.std.specs.Prelude.{◌≡◌, ◌≢◌, ℕ, ◌+◌, ◌*◌, ◌<◌, ◌≤◌, List, length, true};
+ghost use Rattle.std.specs.Prelude.{Some, None, IfOk, IfErr, IfSome, IfNone, OnOk, option_map};
 ghost use Rattle.outside_io.specs.Causes.{Rose};
 ghost use Rattle.plant_model.specs.Plant.{Plant};
 ghost use Rattle.farkas_check.specs.Certificate.{Certificate, certificate_of};

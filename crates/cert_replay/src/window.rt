@@ -1,6 +1,7 @@
 //! The report, read from its slot in pieces: the lines that were taken, and are not compared yet.
 ghost use Rattle.std.specs.Prelude.{◌≡◌, ◌≢◌, ℕ, ◌+◌, ◌*◌, ◌-◌, ◌<◌, ◌≤◌, ◌^◌, List, [], length, drop, take, slice_range};
 ghost use Rattle.std.specs.Prelude.{true, false, None, Some, Err, IfOk, IfErr, IfSome, IfNone, OnOk};
+ghost use Rattle.cert_replay.specs.Lines.{room};
 
 use crate::fault::CheckFault;
 use crate::made::MadeText;
@@ -29,9 +30,9 @@ pub struct Window {
     pub lines: u64,
     /// The lines that are to be compared.
     pub made: MadeText,
-    ghost size: { length bytes ≡ 66547 },
+    ghost size: { length bytes ≡ room },
     ghost within: { at ≤ end },
-    ghost short: { end ≤ 66547 },
+    ghost short: { end ≤ room },
 }
 
 impl Window {
@@ -40,9 +41,10 @@ impl Window {
     ghost use Rattle.outside_io.specs.Causes.{Rose};
     ghost use Rattle.report_text.specs.Laws.{is_feed};
     ghost use Rattle.input_files.specs.Stream.{ReadsOn};
+    ghost use Rattle.input_files.specs.Whole.{most_piece};
     ghost use Rattle.cert_replay.specs.Outcome.{IfRead};
     ghost use Rattle.cert_replay.specs.Faults.{IsReportFault};
-    ghost use Rattle.cert_replay.specs.Lines.{most_line, most_lines, room};
+    ghost use Rattle.cert_replay.specs.Lines.{most_line, most_lines};
     ghost use Rattle.cert_replay.specs.Window.{left_in, HasUnread, ReadsAhead, TakesLines};
 
     /// Before the first byte of a report.
@@ -134,7 +136,7 @@ impl Window {
     /// Reads the next piece behind what is left, and says whether there was more.
     pub fn read_more<F: Shelf>(&mut self, shelf: &mut F) -> Result<bool, CheckFault>
         requires attached { ((F.state shelf.old).slot 2).attached ≡ true }
-        requires room { length (left_in self.old) + 4096 ≤ room }
+        requires room { length (left_in self.old) + most_piece ≤ room }
         ensures ahead { OnOk result (ReadsAhead self.old (F.state shelf.old) self.new (F.state shelf.new)) }
         ensures more { IfOk result (λ b. b ≡ true → length (left_in self.old) < length (left_in self.new)) }
         ensures none { IfOk result (λ b. b ≡ false → left_in self.new ≡ left_in self.old) }
@@ -168,9 +170,9 @@ impl Window {
 
     /// Moves what is left to the front, where there is no room for a piece behind it.
     fn make_room(&mut self)
-        requires { length (left_in self.old) + 4096 ≤ room }
+        requires { length (left_in self.old) + most_piece ≤ room }
         ensures left { left_in self.new ≡ left_in self.old }
-        ensures some { self.new.end + 4096 ≤ room }
+        ensures some { self.new.end + most_piece ≤ room }
         ensures lines { self.new.lines ≡ self.old.lines }
     {
         if ROOM - self.end < PIECE {

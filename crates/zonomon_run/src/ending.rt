@@ -2,7 +2,8 @@
 ghost use Rattle.std.specs.Prelude.{◌≡◌};
 ghost use Rattle.outside_io.specs.Sink.{PutsAll};
 ghost use Rattle.zonomon_run.specs.Endings.{ending_of, check_ending};
-ghost use Rattle.zonomon_run.specs.Ending.{status_of, text_of, usage_lines, model_refusal_text, telemetry_refusal_text, report_refusal_text, Tells};
+ghost use Rattle.zonomon_run.specs.Ending.{status_of, text_of, usage_lines, Tells};
+ghost use Rattle.zonomon_run.specs.Ending.{model_refusal_text, telemetry_refusal_text, report_refusal_text};
 
 use cert_replay::CheckFault;
 use input_files::MOST_TELEMETRY;

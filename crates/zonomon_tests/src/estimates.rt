@@ -1,11 +1,12 @@
-ghost use Rattle.std.specs.Prelude.{◌≡◌, ◌≤◌, IfSome, unsigned_abs};
+ghost use Rattle.std.specs.Prelude.{◌≤◌, IfSome, unsigned_abs};
 ghost use Rattle.set_rules.specs.Limits.{input_limit};
+ghost use Rattle.set_rules.specs.Zono.{range};
 ghost use Rattle.plant_model.specs.Plant.{IsReading};
 
 use arrayvec::ArrayVec;
 use farkas_check::{Cert, Multipliers};
 use fixed_mat::{Mat, Reading};
-use observer_step::{Est, Kept, Outcome};
+use observer_step::{Est, Kept, Outcome, Room, SetPair};
 use plant_model::{Plant, PlantParts, Sample};
 use std::test::Fail;
 
@@ -30,17 +31,14 @@ fn plant(inputs: usize, a: i128, radius: i128) -> Result<Plant<1>, Fail> {
         radius: Mat::zero(),
         state_max: Mat::zero(),
     };
-    parts.a.set(0, 0, a).map_err(|_| "a")?;
-    parts.b.set(0, 0, ONE).map_err(|_| "b")?;
-    parts.c.set(0, 0, ONE).map_err(|_| "c")?;
-    parts.e.set(0, 0, 200_000_000).map_err(|_| "e")?;
-    parts.noise.set(0, 0, 100_000_000).map_err(|_| "noise")?;
-    parts.radius.set(0, 0, radius).map_err(|_| "radius")?;
-    parts
-        .state_max
-        .set(0, 0, 1_000 * ONE)
-        .map_err(|_| "state_max")?;
-    Plant::of(parts).map_err(|_| "a plant".into())
+    parts.a.set(0, 0, a)?;
+    parts.b.set(0, 0, ONE)?;
+    parts.c.set(0, 0, ONE)?;
+    parts.e.set(0, 0, 200_000_000)?;
+    parts.noise.set(0, 0, 100_000_000)?;
+    parts.radius.set(0, 0, radius)?;
+    parts.state_max.set(0, 0, 1_000 * ONE)?;
+    Ok(Plant::of(parts)?)
 }
 
 /// Two states, each within 1 unit, whose sum is read twice with noise within 0.1 units.
@@ -60,12 +58,12 @@ fn twin() -> Result<Plant<2>, Fail> {
         state_max: Mat::zero(),
     };
     for i in 0..2 {
-        parts.c.set(i, 0, ONE).map_err(|_| "c")?;
-        parts.c.set(i, 1, ONE).map_err(|_| "c")?;
-        parts.noise.set(i, 0, 100_000_000).map_err(|_| "noise")?;
-        parts.radius.set(i, 0, ONE).map_err(|_| "radius")?;
+        parts.c.set(i, 0, ONE)?;
+        parts.c.set(i, 1, ONE)?;
+        parts.noise.set(i, 0, 100_000_000)?;
+        parts.radius.set(i, 0, ONE)?;
     }
-    Plant::of(parts).map_err(|_| "a plant".into())
+    Ok(Plant::of(parts)?)
 }
 
 /// A sample with at most one input and one reading.
@@ -99,8 +97,11 @@ fn pair(first: Reading, second: Reading) -> Sample
     }
 }
 
-/// The predicted interval of the output, and the hull of the state once the sample is taken, where it fits.
-fn taken(est: &mut Est<1>, plant: &Plant<1>, sample: &Sample) -> Option<(Ends, Ends)> {
+/// The predicted interval of the output and the hull of the state, once a sample was taken.
+type Taken = (Ends, Ends);
+
+/// Takes a sample, where it fits.
+fn taken(est: &mut Est<1>, plant: &Plant<1>, sample: &Sample) -> Option<Taken> {
     if sample.u.len() != plant.inputs() || sample.y.len() != plant.outputs() {
         return None;
     }
@@ -119,20 +120,35 @@ fn moved(est: &mut Est<1>, plant: &Plant<1>, sample: &Sample) -> Option<Kept> {
     Some(est.predict(plant, &sample.u))
 }
 
+/// Takes a sample, goes on by it and takes the next.
+fn taken_both(
+    plant: &Plant<1>,
+    first: &Sample,
+    second: &Sample,
+) -> (Option<Taken>, Option<Kept>, Option<Taken>) {
+    let mut est = Est::begin(plant);
+    let before = taken(&mut est, plant, first);
+    let kept = moved(&mut est, plant, first);
+    (before, kept, taken(&mut est, plant, second))
+}
+
+/// A reading without slack.
+fn exactly(v: i128) -> Reading
+    requires { unsigned_abs v ≤ range }
+    ensures { IsReading result }
+{
+    Reading::Value { v, slack: 0 }
+}
+
+const HALF: i128 = 500_000_000;
+
 /// The gain is 990099009: the centre goes to 495049505, and the columns are 9900991, -99009901 and 1.
 #[test]
 fn a_reading_is_taken(rt: HostRuntime) -> Result<(), Fail> {
-    let plant = plant(0, ONE / 2, ONE)?;
+    let plant = plant(0, HALF, ONE)?;
     let mut est = Est::begin(&plant);
-    let half = sample(
-        None,
-        Reading::Value {
-            v: 500_000_000,
-            slack: 0,
-        },
-    );
     assert_eq!(rt;
-        taken(&mut est, &plant, &half),
+        taken(&mut est, &plant, &sample(None, exactly(HALF))),
         Some(((-1_100_000_000, 1_100_000_000), (386_138_612, 603_960_398)))
     );
     Ok(())
@@ -141,44 +157,27 @@ fn a_reading_is_taken(rt: HostRuntime) -> Result<(), Fail> {
 /// The predicted interval ends at 1.1 units.
 #[test]
 fn a_reading_at_the_edge_is_kept(rt: HostRuntime) -> Result<(), Fail> {
-    let plant = plant(0, ONE / 2, ONE)?;
-    for (y, hull) in [
-        (
-            Reading::Value {
-                v: 1_100_000_000,
-                slack: 0,
-            },
-            (980_198_017, 1_198_019_803),
-        ),
-        (
-            Reading::Value {
-                v: 1_100_000_000,
-                slack: 1,
-            },
-            (980_198_016, 1_198_019_804),
-        ),
-        (
-            Reading::Value {
-                v: 1_100_000_001,
-                slack: 1,
-            },
-            (980_198_017, 1_198_019_805),
-        ),
+    let plant = plant(0, HALF, ONE)?;
+    for (v, slack, hull) in [
+        (1_100_000_000, 0, (980_198_017, 1_198_019_803)),
+        (1_100_000_000, 1, (980_198_016, 1_198_019_804)),
+        (1_100_000_001, 1, (980_198_017, 1_198_019_805)),
     ] {
         let mut est = Est::begin(&plant);
+        let near = sample(None, Reading::Value { v, slack });
         assert_eq!(rt;
-            taken(&mut est, &plant, &sample(None, y)).map(|made| made.1),
+            taken(&mut est, &plant, &near).map(|made| made.1),
             Some(hull)
         );
     }
-    let past = sample(
-        None,
-        Reading::Value {
-            v: 1_100_000_001,
-            slack: 0,
-        },
-    );
+    Ok(())
+}
+
+#[test]
+fn a_reading_past_the_edge_is_not_taken(rt: HostRuntime) -> Result<(), Fail> {
+    let plant = plant(0, HALF, ONE)?;
     let mut est = Est::begin(&plant);
+    let past = sample(None, exactly(1_100_000_001));
     assert!(rt; taken(&mut est, &plant, &past).is_none());
     assert_eq!(rt; est.hull(0), (-ONE, ONE));
     Ok(())
@@ -187,26 +186,13 @@ fn a_reading_at_the_edge_is_kept(rt: HostRuntime) -> Result<(), Fail> {
 /// The gain 198412695 would raise the sum of the radii from 54455449 to 63492070.
 #[test]
 fn a_reading_that_would_spread_the_set_is_not_taken(rt: HostRuntime) -> Result<(), Fail> {
-    let plant = plant(0, ONE / 2, ONE)?;
-    let mut est = Est::begin(&plant);
-    let half = sample(
-        None,
-        Reading::Value {
-            v: 500_000_000,
-            slack: 0,
-        },
-    );
-    let fifth = sample(
-        None,
-        Reading::Value {
-            v: 200_000_000,
-            slack: 0,
-        },
-    );
-    assert!(rt; taken(&mut est, &plant, &half).is_some());
-    assert_eq!(rt; moved(&mut est, &plant, &half), Some(Kept::Imaged));
+    let plant = plant(0, HALF, ONE)?;
+    let half = sample(None, exactly(HALF));
+    let fifth = sample(None, exactly(200_000_000));
+    let (before, kept, after) = taken_both(&plant, &half, &fifth);
+    assert_eq!(rt; (before.is_some(), kept), (true, Some(Kept::Imaged)));
     assert_eq!(rt;
-        taken(&mut est, &plant, &fifth),
+        after,
         Some(((93_069_304, 401_980_202), (193_069_304, 301_980_202)))
     );
     Ok(())
@@ -214,17 +200,15 @@ fn a_reading_that_would_spread_the_set_is_not_taken(rt: HostRuntime) -> Result<(
 
 #[test]
 fn a_lost_reading_leaves_the_set(rt: HostRuntime) -> Result<(), Fail> {
-    let plant = plant(0, ONE / 2, ONE)?;
-    let mut est = Est::begin(&plant);
+    let plant = plant(0, HALF, ONE)?;
     let lost = sample(None, Reading::Missing);
     assert_eq!(rt;
-        taken(&mut est, &plant, &lost),
-        Some(((-1_100_000_000, 1_100_000_000), (-ONE, ONE)))
-    );
-    assert_eq!(rt; moved(&mut est, &plant, &lost), Some(Kept::Imaged));
-    assert_eq!(rt;
-        taken(&mut est, &plant, &lost),
-        Some(((-600_000_000, 600_000_000), (-500_000_000, 500_000_000)))
+        taken_both(&plant, &lost, &lost),
+        (
+            Some(((-1_100_000_000, 1_100_000_000), (-ONE, ONE))),
+            Some(Kept::Imaged),
+            Some(((-600_000_000, 600_000_000), (-HALF, HALF)))
+        )
     );
     Ok(())
 }
@@ -233,18 +217,30 @@ fn a_lost_reading_leaves_the_set(rt: HostRuntime) -> Result<(), Fail> {
 #[test]
 fn an_image_at_the_range_stays(rt: HostRuntime) -> Result<(), Fail> {
     let lost = sample(None, Reading::Missing);
-    for (radius, kept, reach) in [
-        (1_000_000 * ONE, Kept::Imaged, 1_000_000_000 * ONE),
-        (1_000_001 * ONE, Kept::Widened, 1_000 * ONE),
-    ] {
-        let plant = plant(0, 1_000 * ONE, radius)?;
-        let mut est = Est::begin(&plant);
-        assert!(rt; taken(&mut est, &plant, &lost).is_some());
-        assert_eq!(rt; moved(&mut est, &plant, &lost), Some(kept));
-        let noise = ONE / 10;
+    let cases = [
+        (
+            1_000_000_000_000_000,
+            Kept::Imaged,
+            (
+                (-1_000_000_000_100_000_000, 1_000_000_000_100_000_000),
+                (-1_000_000_000_000_000_000, 1_000_000_000_000_000_000),
+            ),
+        ),
+        (
+            1_000_001_000_000_000,
+            Kept::Widened,
+            (
+                (-1_000_100_000_000, 1_000_100_000_000),
+                (-1_000_000_000_000, 1_000_000_000_000),
+            ),
+        ),
+    ];
+    for (radius, image, ends) in cases {
+        let plant = plant(0, 1_000_000_000_000, radius)?;
+        let (before, kept, after) = taken_both(&plant, &lost, &lost);
         assert_eq!(rt;
-            taken(&mut est, &plant, &lost),
-            Some(((-reach - noise, reach + noise), (-reach, reach)))
+            (before.is_some(), kept, after),
+            (true, Some(image), Some(ends))
         );
     }
     Ok(())
@@ -253,20 +249,13 @@ fn an_image_at_the_range_stays(rt: HostRuntime) -> Result<(), Fail> {
 /// The input 2 and a disturbance within 0.2 units: from 1.3 to 2.7 units. The gain is 966666666.
 #[test]
 fn an_input_moves_the_set(rt: HostRuntime) -> Result<(), Fail> {
-    let plant = plant(1, ONE / 2, ONE)?;
-    let mut est = Est::begin(&plant);
-    let driven = sample(Some(2 * ONE), Reading::Missing);
-    let still = sample(
-        Some(0),
-        Reading::Value {
-            v: 2_000_000_000,
-            slack: 0,
-        },
-    );
-    assert!(rt; taken(&mut est, &plant, &driven).is_some());
-    assert_eq!(rt; moved(&mut est, &plant, &driven), Some(Kept::Imaged));
+    let plant = plant(1, HALF, ONE)?;
+    let driven = sample(Some(2_000_000_000), Reading::Missing);
+    let still = sample(Some(0), exactly(2_000_000_000));
+    let (before, kept, after) = taken_both(&plant, &driven, &still);
+    assert_eq!(rt; (before.is_some(), kept), (true, Some(Kept::Imaged)));
     assert_eq!(rt;
-        taken(&mut est, &plant, &still),
+        after,
         Some((
             (1_200_000_000, 2_800_000_000),
             (1_879_999_998, 2_120_000_002)
@@ -279,20 +268,12 @@ fn an_input_moves_the_set(rt: HostRuntime) -> Result<(), Fail> {
 #[test]
 fn the_least_output_that_misses_is_named(rt: HostRuntime) -> Result<(), Fail> {
     let plant = twin()?;
-    let inside = Reading::Value {
-        v: 500_000_000,
-        slack: 0,
-    };
-    let below = Reading::Value {
-        v: -2_200_000_000,
-        slack: 0,
-    };
-    let above = Reading::Value {
-        v: 2_200_000_000,
-        slack: 0,
-    };
-    for (first, second, output) in [(inside, above, 1), (below, above, 0)] {
-        let sample = pair(first, second);
+    let cases = [
+        (500_000_000, 2_200_000_000, 1),
+        (-2_200_000_000, 2_200_000_000, 0),
+    ];
+    for (first, second, output) in cases {
+        let sample = pair(exactly(first), exactly(second));
         let mut est = Est::begin(&plant);
         assert!(rt; sample.u.is_empty() && plant.inputs() == 0);
         assert!(rt; sample.y.len() == 2 && plant.outputs() == 2);
@@ -305,15 +286,9 @@ fn the_least_output_that_misses_is_named(rt: HostRuntime) -> Result<(), Fail> {
 /// No row is kept, so no multipliers refute one.
 #[test]
 fn offered_rows_are_not_justified(rt: HostRuntime) -> Result<(), Fail> {
-    let plant = plant(0, ONE / 2, ONE)?;
+    let plant = plant(0, HALF, ONE)?;
     let rows = Cert::Rows(Multipliers::of(&[1]).ok_or("in range")?);
-    let half = sample(
-        None,
-        Reading::Value {
-            v: 500_000_000,
-            slack: 0,
-        },
-    );
+    let half = sample(None, exactly(HALF));
     let mut est = Est::begin(&plant);
     assert!(rt; half.u.is_empty() && plant.inputs() == 0);
     assert!(rt; half.y.len() == 1 && plant.outputs() == 1);
@@ -324,5 +299,44 @@ fn offered_rows_are_not_justified(rt: HostRuntime) -> Result<(), Fail> {
     assert!(rt;
         matches!(why.offered, Some(Cert::Rows(list)) if list.len() == 1 && list.at(0) == 1)
     );
+    Ok(())
+}
+
+/// Two sensors of one sum read 0.5 and -0.5 units: neither misses what is predicted, and both rows together are refuted.
+#[test]
+fn kept_rows_refute_what_no_reading_misses(rt: HostRuntime) -> Result<(), Fail> {
+    let plant = twin()?;
+    let sample = pair(exactly(HALF), exactly(-HALF));
+    let mut sets = SetPair::begin(&plant);
+    let mut room = Room::new();
+    assert!(rt; sample.u.is_empty() && plant.inputs() == 0);
+    assert!(rt; sample.y.len() == 2 && plant.outputs() == 2);
+    let Outcome::Excluded(Cert::Rows(found)) = sets.judge(&plant, &sample, &mut room).outcome else {
+        return Err("not refuted".into());
+    };
+    assert!(rt; found.len() == 2);
+    assert_eq!(rt; (found.at(0), found.at(1)), (1_000_000_000, -1_000_000_000));
+    assert_eq!(rt; sets.rows().count(), 2);
+    Ok(())
+}
+
+/// The multipliers 1 and -1 refute the same rows, 0 and 0 do not, and nothing is not enough where an output is due.
+#[test]
+fn any_multipliers_that_pass_are_justified(rt: HostRuntime) -> Result<(), Fail> {
+    let plant = twin()?;
+    for (second, offered, justified) in [
+        (-HALF, [1, -1], true),
+        (-HALF, [0, 0], false),
+        (2_200_000_000, [1, -1], false),
+    ] {
+        let sample = pair(exactly(HALF), exactly(second));
+        let mut sets = SetPair::begin(&plant);
+        let mut room = Room::new();
+        assert!(rt; sample.u.is_empty() && plant.inputs() == 0);
+        assert!(rt; sample.y.len() == 2 && plant.outputs() == 2);
+        let offer = Cert::Rows(Multipliers::of(&offered).ok_or("in range")?);
+        let judged = sets.judge_with(&plant, &sample, &mut room, Some(offer));
+        assert_eq!(rt; judged.is_ok(), justified);
+    }
     Ok(())
 }

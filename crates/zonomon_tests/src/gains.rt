@@ -1,84 +1,47 @@
-use fixed_mat::{Coefs, Cols};
+use crate::columns::{columns_of, row_of};
+use fixed_mat::Cols;
 use row_drop::{gain, gain_within};
 use std::test::Fail;
 
-const ONE: i64 = 1_000_000_000;
+/// Gains, each with the columns and the row that it is of:
+///
+/// - a state within 1 unit that is read with noise within 0.1 units, of which a reading is taken almost whole;
+/// - a prediction, which takes less;
+/// - no row, which tells nothing where every coefficient is zero;
+/// - a wide state and a narrow row, which would make the gain 10 ^ 18;
+/// - a state and a row too wide for products in 64 bits, and a wider one that has to be shrunk.
+const GAINS: [(&[i64], &[i128], i64); 6] = [
+    (&[1_000_000_000], &[1_000_000_000, 100_000_000], 990_099_009),
+    (
+        &[4_950_496, -49_504_950, 1, 2],
+        &[4_950_496, -49_504_950, 1, 2, 100_000_000],
+        198_412_695,
+    ),
+    (&[1_000_000_000], &[0], 0),
+    (
+        &[-1_000_000_000_000_000_000],
+        &[1_000_000_000],
+        -1_000_000_000_000,
+    ),
+    (
+        &[300_000_000_000, -200_000_000_000],
+        &[300_000_000_000, -200_000_000_000, 7_000_000_000],
+        999_623_218,
+    ),
+    (
+        &[2_000_000_000_000, -200_000_000_000],
+        &[2_000_000_000_000, -200_000_000_000, 7_000_000_000],
+        999_987_871,
+    ),
+];
 
-/// A state within 1 unit, read with noise within 0.1 units.
 #[test]
-fn a_reading_is_taken_almost_whole(rt: HostRuntime) -> Result<(), Fail> {
-    let mut cols: Cols<1> = Cols::new();
-    cols.push_diagonal(0, ONE);
-    let mut a = Coefs::new();
-    a.push(i128::from(ONE))?;
-    a.push(100_000_000)?;
-    assert!(rt; cols.len() == 1);
-    assert!(rt; a.len() == 2);
-    assert_eq!(rt; gain(&cols, &a).at(0, 0), 990_099_009);
-    Ok(())
-}
-
-#[test]
-fn a_prediction_takes_less(rt: HostRuntime) -> Result<(), Fail> {
-    let mut cols: Cols<1> = Cols::new();
-    let mut a = Coefs::new();
-    for v in [4_950_496, -49_504_950, 1, 2] {
-        assert!(rt; cols.len() < 128);
-        cols.push_diagonal(0, v);
-        assert!(rt; a.len() < 128);
-        a.push(i128::from(v))?;
-    }
-    assert!(rt; a.len() < 128);
-    a.push(100_000_000)?;
-    assert!(rt; cols.len() == 4);
-    assert!(rt; a.len() == 5);
-    assert_eq!(rt; gain(&cols, &a).at(0, 0), 198_412_695);
-    Ok(())
-}
-
-/// No row tells anything where every coefficient is zero.
-#[test]
-fn a_zero_row_is_not_taken(rt: HostRuntime) -> Result<(), Fail> {
-    let mut cols: Cols<1> = Cols::new();
-    cols.push_diagonal(0, ONE);
-    let mut a = Coefs::new();
-    a.push(0)?;
-    assert!(rt; cols.len() == 1);
-    assert!(rt; a.len() == 1);
-    assert_eq!(rt; gain(&cols, &a).at(0, 0), 0);
-    Ok(())
-}
-
-/// A wide state and a narrow row would make the gain 10 ^ 18.
-#[test]
-fn a_gain_is_clipped(rt: HostRuntime) -> Result<(), Fail> {
-    let mut cols: Cols<1> = Cols::new();
-    cols.push_diagonal(0, -ONE * ONE);
-    let mut a = Coefs::new();
-    a.push(i128::from(ONE))?;
-    assert!(rt; cols.len() == 1);
-    assert!(rt; a.len() == 1);
-    assert_eq!(rt; gain(&cols, &a).at(0, 0), -1_000_000_000_000);
-    Ok(())
-}
-
-/// A state and a row too wide for products in 64 bits, and a wider one that has to be shrunk.
-#[test]
-fn wide_rows_are_taken_alike(rt: HostRuntime) -> Result<(), Fail> {
-    for (first, taken) in [(300 * ONE, 999_623_218), (2_000 * ONE, 999_987_871)] {
-        let mut cols: Cols<1> = Cols::new();
-        let mut a = Coefs::new();
-        for v in [first, -200 * ONE] {
-            assert!(rt; cols.len() < 128);
-            cols.push_diagonal(0, v);
-            assert!(rt; a.len() < 128);
-            a.push(i128::from(v))?;
-        }
-        assert!(rt; a.len() < 128);
-        a.push(i128::from(7 * ONE))?;
-        assert!(rt; cols.len() == 2);
-        assert!(rt; a.len() == 3);
-        assert_eq!(rt; gain(&cols, &a).at(0, 0), taken);
+fn each_row_has_its_gain(rt: HostRuntime) -> Result<(), Fail> {
+    for (entries, coefficients, taken) in GAINS {
+        let cols = columns_of(entries)?;
+        let row = row_of(coefficients)?;
+        assert!(rt; row.len() == cols.len() || row.len() == cols.len() + 1);
+        assert_eq!(rt; gain(&cols, &row).at(0, 0), taken);
     }
     Ok(())
 }
@@ -87,17 +50,11 @@ fn wide_rows_are_taken_alike(rt: HostRuntime) -> Result<(), Fail> {
 #[test]
 fn every_bound_gives_the_same_gain(rt: HostRuntime) -> Result<(), Fail> {
     let mut cols: Cols<1> = Cols::new();
-    cols.push_diagonal(0, 2 * ONE);
-    let mut a = Coefs::new();
-    a.push(i128::from(3 * ONE))?;
-    a.push(i128::from(-ONE))?;
-    assert!(rt; cols.len() == 1);
-    assert!(rt; a.len() == 2);
-    assert_eq!(rt; gain_within(&cols, &a, 2_000_000_000).at(0, 0), 600_000_000);
-    assert_eq!(rt; gain_within(&cols, &a, 3_000_000_000).at(0, 0), 600_000_000);
-    assert_eq!(rt;
-        gain_within(&cols, &a, 2_000_000_000_000).at(0, 0),
-        600_000_000
-    );
+    cols.push_diagonal(0, 2_000_000_000);
+    let row = row_of(&[3_000_000_000, -1_000_000_000])?;
+    assert!(rt; cols.len() == 1 && row.len() == 2);
+    for bound in [2_000_000_000, 3_000_000_000, 2_000_000_000_000] {
+        assert_eq!(rt; gain_within(&cols, &row, bound).at(0, 0), 600_000_000);
+    }
     Ok(())
 }

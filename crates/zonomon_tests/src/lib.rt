@@ -5,11 +5,17 @@
 #[cfg(test)]
 mod banks;
 #[cfg(test)]
+mod columns;
+#[cfg(test)]
+mod constrained;
+#[cfg(test)]
 mod decimals;
 #[cfg(test)]
 mod edge;
 #[cfg(test)]
 mod estimates;
+#[cfg(test)]
+mod farkas;
 #[cfg(test)]
 mod gains;
 #[cfg(test)]

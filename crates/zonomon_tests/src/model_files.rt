@@ -38,71 +38,107 @@ fn bank_of(alloc: Global, text: &str) -> Result<Bank0, Fail> {
 }
 
 #[test]
-fn each_number_stands_in_its_place(rt: HostRuntime) -> Result<(), Fail> {
+fn each_name_stands_in_its_place(rt: HostRuntime) -> Result<(), Fail> {
     let bank = bank_of(rt.alloc(), WHEEL)?;
+    let (inputs, outputs) = (bank.inputs(), bank.outputs());
+    assert_eq!(rt; (inputs.len(), outputs.len(), bank.count()), (1, 2, 2));
     assert_eq!(rt;
-        (bank.inputs().len(), bank.outputs().len(), bank.count()),
-        (1, 2, 2)
+        [
+            inputs.at(0),
+            outputs.at(0),
+            outputs.at(1),
+            bank.name(0),
+            bank.name(1)
+        ],
+        ["torque", "speed", "temp", "nominal", "dead"]
     );
-    assert_eq!(rt;
-        (
-            bank.inputs().at(0),
-            bank.outputs().at(0),
-            bank.outputs().at(1)
-        ),
-        ("torque", "speed", "temp")
-    );
-    assert_eq!(rt; (bank.name(0), bank.name(1)), ("nominal", "dead"));
-    let AnyPlant::N2(plant) = bank.plant(0) else {
-        return Err(Fail::from("two states"));
-    };
-    let s = 1_000_000_000;
-    assert_eq!(rt; (plant.inputs(), plant.outputs(), plant.dists()), (1, 2, 1));
-    assert_eq!(rt;
-        plant.a().entries(),
-        [990_000_000, 0, 20_000_000, 900_000_000].as_slice()
-    );
-    assert_eq!(rt;
-        plant.b().entries(),
-        [2 * s, 0, 0, 0, 3 * s, 0, 0, 0].as_slice()
-    );
-    assert_eq!(rt;
-        &plant.c().entries()[..4],
-        [s, 4 * s, 5 * s, 6 * s].as_slice()
-    );
-    assert_eq!(rt;
-        &plant.d().entries()[..8],
-        [7 * s, 0, 0, 0, 8 * s, 0, 0, 0].as_slice()
-    );
-    assert_eq!(rt;
-        (plant.e().at(0, 0), plant.e().at(0, 1), plant.e().at(1, 0)),
-        (100_000_000, 0, 9 * s)
-    );
-    assert_eq!(rt; plant.centre().entries(), [100 * s, -20 * s].as_slice());
-    assert_eq!(rt; plant.radius().entries(), [s, 2 * s].as_slice());
-    assert_eq!(rt; plant.state_max().entries(), [1000 * s, 200 * s].as_slice());
     Ok(())
 }
 
-/// A file of so many models of 8 states and 8 disturbances.
-fn large_file(alloc: Global, models: usize) -> Result<String, Fail> {
-    let row = "[1, 1, 1, 1, 1, 1, 1, 1]";
-    let square = format!(in alloc; "[{row}, {row}, {row}, {row}, {row}, {row}, {row}, {row}]")?;
+/// The numbers of the wheel's first model, in nano-units: the entries that a model of two states, one input and two
+/// outputs uses, with those behind them in `b` and `d`.
+#[test]
+fn each_number_stands_in_its_place(rt: HostRuntime) -> Result<(), Fail> {
+    let bank = bank_of(rt.alloc(), WHEEL)?;
+    let AnyPlant::N2(plant) = bank.plant(0) else {
+        return Err(Fail::from("two states"));
+    };
+    assert_eq!(rt; (plant.inputs(), plant.outputs(), plant.dists()), (1, 2, 1));
+    let e = plant.e();
+    let cases: [(&[i64], &[i64]); 8] = [
+        (
+            plant.a().entries(),
+            &[990_000_000, 0, 20_000_000, 900_000_000],
+        ),
+        (
+            plant.b().entries(),
+            &[2_000_000_000, 0, 0, 0, 3_000_000_000, 0, 0, 0],
+        ),
+        (
+            &plant.c().entries()[..4],
+            &[1_000_000_000, 4_000_000_000, 5_000_000_000, 6_000_000_000],
+        ),
+        (
+            &plant.d().entries()[..8],
+            &[7_000_000_000, 0, 0, 0, 8_000_000_000, 0, 0, 0],
+        ),
+        (
+            &[e.at(0, 0), e.at(0, 1), e.at(1, 0)],
+            &[100_000_000, 0, 9_000_000_000],
+        ),
+        (
+            plant.centre().entries(),
+            &[100_000_000_000, -20_000_000_000],
+        ),
+        (plant.radius().entries(), &[1_000_000_000, 2_000_000_000]),
+        (
+            plant.state_max().entries(),
+            &[1_000_000_000_000, 200_000_000_000],
+        ),
+    ];
+    for (entries, wanted) in cases {
+        assert_eq!(rt; entries, wanted);
+    }
+    Ok(())
+}
+
+/// A model of 8 states and 8 disturbances, all of whose numbers are 1, up to its name and its rows.
+const EIGHT_STATES: &str = "[[model]]
+name = \"NAME\"
+states = 8
+disturbances = 8
+A = SQUARE
+C = [ROW]
+E = SQUARE
+noise = [1]
+centre = ROW
+radius = ROW
+state_max = ROW
+";
+
+const SQUARE: &str = "[ROW, ROW, ROW, ROW, ROW, ROW, ROW, ROW]";
+
+const ROW: &str = "[1, 1, 1, 1, 1, 1, 1, 1]";
+
+/// A file of models of these names, each of 8 states and 8 disturbances.
+fn large_file(alloc: Global, names: &[&str]) -> Result<String, Fail> {
+    let squares = EIGHT_STATES.replace(alloc, "SQUARE", SQUARE)?;
+    let model = squares.replace(alloc, "ROW", ROW)?;
     let mut text = String::from_str(alloc, "version = 1\noutputs = [\"y\"]\n")?;
-    for i in 0..models {
-        let head = format!(in alloc; "[[model]]\nname = \"m{i}\"\nstates = 8\ndisturbances = 8\n")?;
-        let matrices = format!(in alloc; "A = {square}\nC = [{row}]\nE = {square}\nnoise = [1]\n")?;
-        let bounds = format!(in alloc; "centre = {row}\nradius = {row}\nstate_max = {row}\n")?;
-        text.push_str(head.as_str())?;
-        text.push_str(matrices.as_str())?;
-        text.push_str(bounds.as_str())?;
+    for name in names {
+        text.push_str(&model.replace(alloc, "NAME", name)?)?;
     }
     Ok(text)
 }
 
+const SIXTEEN_NAMES: [&str; 16] = [
+    "m0", "m1", "m2", "m3", "m4", "m5", "m6", "m7", "m8", "m9", "m10", "m11", "m12", "m13", "m14",
+    "m15",
+];
+
 #[test]
 fn sixteen_models_of_eight_states_are_read(rt: HostRuntime) -> Result<(), Fail> {
-    let bank = bank_of(rt.alloc(), large_file(rt.alloc(), 16)?.as_str())?;
+    let bank = bank_of(rt.alloc(), large_file(rt.alloc(), &SIXTEEN_NAMES)?.as_str())?;
     assert_eq!(rt; bank.count(), 16);
     assert_eq!(rt; bank.name(15), "m15");
     assert!(rt; matches!(bank.plant(15), AnyPlant::N8(_)));

@@ -42,8 +42,8 @@ fn with_line(alloc: Global, key: &str, line: &str) -> Result<String, Fail> {
 }
 
 /// What is said of a file, or nothing where it is accepted.
-fn said(alloc: Global, text: &str) -> Result<String, Fail> {
-    match read_models(alloc, text.as_bytes()) {
+fn said(alloc: Global, bytes: &[u8]) -> Result<String, Fail> {
+    match read_models(alloc, bytes) {
         Ok(_) => Ok(String::new(alloc)),
         Err(fault) => {
             let line = model_refusal(&fault);
@@ -57,7 +57,7 @@ fn said(alloc: Global, text: &str) -> Result<String, Fail> {
 fn check(rt: &(impl AllocGlobal + Abort), cases: &[(&str, &str, &str)]) -> Result<(), Fail> {
     for (key, line, expected) in cases {
         let text = with_line(rt.alloc(), key, line)?;
-        let said = said(rt.alloc(), text.as_str())?;
+        let said = said(rt.alloc(), text.as_bytes())?;
         assert_eq!(rt; said.as_str(), *expected, "{key}: {line}");
     }
     Ok(())
@@ -411,8 +411,10 @@ fn the_whole_of_a_file_is_judged(rt: HostRuntime) -> Result<(), Fail> {
             "model refused: model[0].A[1]: 2 entries wanted, 1 found",
         ),
     ] {
-        let text = format!(in alloc; "version = 1\noutputs = [\"y\"]\n{models}\n")?;
-        assert_eq!(rt; said(alloc, text.as_str())?.as_str(), expected);
+        let mut text = String::from_str(alloc, "version = 1\noutputs = [\"y\"]\n")?;
+        text.push_str(models)?;
+        text.push('\n')?;
+        assert_eq!(rt; said(alloc, text.as_bytes())?.as_str(), expected);
     }
     Ok(())
 }
@@ -420,16 +422,20 @@ fn the_whole_of_a_file_is_judged(rt: HostRuntime) -> Result<(), Fail> {
 #[test]
 fn a_second_model_has_another_name(rt: HostRuntime) -> Result<(), Fail> {
     let alloc = rt.alloc();
-    let text = format!(in alloc; "{FILE}[[model]]\nname = \"Q\"\n")?;
-    assert_eq!(rt;
-        said(alloc, text.as_str())?.as_str(),
-        "model refused: model[1].name: bad name"
-    );
-    let text = format!(in alloc; "{FILE}[[model]]\nname = \"R\"\n")?;
-    assert_eq!(rt;
-        said(alloc, text.as_str())?.as_str(),
-        "model refused: model[1].states: missing"
-    );
+    for (second, expected) in [
+        (
+            "[[model]]\nname = \"Q\"\n",
+            "model refused: model[1].name: bad name",
+        ),
+        (
+            "[[model]]\nname = \"R\"\n",
+            "model refused: model[1].states: missing",
+        ),
+    ] {
+        let mut text = String::from_str(alloc, FILE)?;
+        text.push_str(second)?;
+        assert_eq!(rt; said(alloc, text.as_bytes())?.as_str(), expected);
+    }
     Ok(())
 }
 
@@ -438,17 +444,16 @@ fn a_file_past_its_greatest_length_is_refused(rt: HostRuntime) -> Result<(), Fai
     let alloc = rt.alloc();
     let mut bytes = Vec::from_slice(alloc, FILE.as_bytes())?;
     bytes.resize(MOST_BYTES, b'\n')?;
-    assert!(rt; read_models(alloc, &bytes).is_ok());
+    assert_eq!(rt; said(alloc, &bytes)?.as_str(), "");
     bytes.push(b'\n')?;
-    let fault = read_models(alloc, &bytes).err().ok_or("accepted")?;
-    assert_eq!(rt;
-        model_refusal(&fault).as_slice(),
-        b"model refused: file: too many, 1048577".as_slice()
-    );
-    let fault = read_models(alloc, b"\xff").err().ok_or("accepted")?;
-    assert_eq!(rt;
-        model_refusal(&fault).as_slice(),
-        b"model refused: not TOML".as_slice()
-    );
+    let told = "model refused: file: too many, 1048577";
+    assert_eq!(rt; said(alloc, &bytes)?.as_str(), told);
+    Ok(())
+}
+
+#[test]
+fn a_file_that_is_no_text_is_refused(rt: HostRuntime) -> Result<(), Fail> {
+    let said = said(rt.alloc(), b"\xff")?;
+    assert_eq!(rt; said.as_str(), "model refused: not TOML");
     Ok(())
 }

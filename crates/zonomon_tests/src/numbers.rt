@@ -42,9 +42,10 @@ fn an_entry_past_the_limit_is_refused(rt: HostRuntime) -> Result<(), Fail> {
     coefs.push(-4)?;
     coefs.push(9_999_999_999_999_999_999_996)?;
     assert!(rt; coefs.push(1).is_err());
-    assert_eq!(rt; coefs.len(), 2);
-    assert_eq!(rt; coefs.at(0), -4);
-    assert_eq!(rt; coefs.sum(), 10_000_000_000_000_000_000_000);
+    assert_eq!(rt;
+        (coefs.len(), coefs.at(0), coefs.sum()),
+        (2, -4, 10_000_000_000_000_000_000_000)
+    );
     Ok(())
 }
 
@@ -61,14 +62,17 @@ fn columns_are_changed_in_place(rt: HostRuntime) -> Result<(), Fail> {
     cols.copy_down(2, 1);
     cols.truncate(2);
     let cols = cols.copy();
-    assert_eq!(rt; cols.len(), 2);
-    assert_eq!(rt; cols.at(0, 0), 7);
-    assert_eq!(rt; cols.at(1, 1), -4);
-    assert_eq!(rt; cols.mag(0), 10);
+    assert_eq!(rt;
+        (cols.len(), cols.at(0, 0), cols.at(1, 1), cols.mag(0)),
+        (2, 7, -4, 10)
+    );
     let mut row: Mat<1, 2, Coef> = Mat::zero();
     row.replace([2, 3].as_slice());
-    assert_eq!(rt; dot(&row, &cols, 0), 38);
-    assert_eq!(rt; dot(&row, &cols, 1), -6);
-    assert_eq!(rt; row_times_vector(&row, 0, &mat), -6);
+    let products = [
+        dot(&row, &cols, 0),
+        dot(&row, &cols, 1),
+        row_times_vector(&row, 0, &mat),
+    ];
+    assert_eq!(rt; products, [38, -6, -6]);
     Ok(())
 }

@@ -18,64 +18,60 @@ fn parts(outputs: usize, noise: i128, centre: i128, radius: i128) -> Result<Plan
         radius: Mat::zero(),
         state_max: Mat::zero(),
     };
-    parts.c.set(0, 0, 1_000_000_000).map_err(|_| "entry")?;
-    parts.noise.set(0, 0, noise).map_err(|_| "noise")?;
-    parts.centre.set(0, 0, centre).map_err(|_| "centre")?;
-    parts.radius.set(0, 0, radius).map_err(|_| "radius")?;
+    parts.c.set(0, 0, 1_000_000_000)?;
+    parts.noise.set(0, 0, noise)?;
+    parts.centre.set(0, 0, centre)?;
+    parts.radius.set(0, 0, radius)?;
     Ok(parts)
 }
 
-fn judged(
-    outputs: usize,
-    noise: i128,
-    centre: i128,
-    radius: i128,
-) -> Result<Option<PlantFault>, Fail> {
-    Ok(Plant::of(parts(outputs, noise, centre, radius)?).err())
-}
+const RANGE: i128 = 1_000_000_000_000_000_000;
 
 #[test]
 fn a_plant_is_refused_by_its_first_limit(rt: HostRuntime) -> Result<(), Fail> {
-    let range = 1_000_000_000_000_000_000;
-    assert_eq!(rt; judged(1, 0, -range, 0)?, None);
-    assert_eq!(rt; judged(6, 1, 1, range - 1)?, None);
-    assert_eq!(rt; judged(0, -1, range, range)?, Some(PlantFault::Counts));
-    assert_eq!(rt; judged(7, 0, 0, 0)?, Some(PlantFault::Counts));
-    assert_eq!(rt; judged(1, -1, range, range)?, Some(PlantFault::Negative));
-    assert_eq!(rt; judged(1, 0, 0, -1)?, Some(PlantFault::Negative));
-    assert_eq!(rt; judged(1, 0, -range, 1)?, Some(PlantFault::Box { i: 0 }));
+    let cases = [
+        (1, 0, -RANGE, 0, None),
+        (6, 1, 1, RANGE - 1, None),
+        (0, -1, RANGE, RANGE, Some(PlantFault::Counts)),
+        (7, 0, 0, 0, Some(PlantFault::Counts)),
+        (1, -1, RANGE, RANGE, Some(PlantFault::Negative)),
+        (1, 0, 0, -1, Some(PlantFault::Negative)),
+        (1, 0, -RANGE, 1, Some(PlantFault::Box { i: 0 })),
+    ];
+    for (outputs, noise, centre, radius, fault) in cases {
+        let judged = Plant::of(parts(outputs, noise, centre, radius)?);
+        assert_eq!(rt; judged.err(), fault);
+    }
     Ok(())
 }
 
 #[test]
 fn a_plant_lends_what_it_was_made_of(rt: HostRuntime) -> Result<(), Fail> {
-    let plant = Plant::of(parts(1, 5, -7, 3)?).map_err(|_| "a plant")?;
-    assert_eq!(rt;
-        (
-            plant.states(),
-            plant.inputs(),
-            plant.outputs(),
-            plant.dists()
-        ),
-        (1, 0, 1, 8)
-    );
-    assert_eq!(rt; plant.c_row(0).entries(), [1_000_000_000].as_slice());
-    assert_eq!(rt;
-        (
-            plant.noise(0),
-            plant.centre().at(0, 0),
-            plant.radius().at(0, 0)
-        ),
-        (5, -7, 3)
-    );
-    assert_eq!(rt;
-        plant.a().entries().len() + plant.b().entries().len() + plant.c().entries().len(),
-        11
-    );
-    assert_eq!(rt;
-        plant.d().entries().len() + plant.e().entries().len() + plant.state_max().entries().len(),
-        33
-    );
+    let plant = Plant::of(parts(1, 5, -7, 3)?)?;
+    let counts = [
+        plant.states(),
+        plant.inputs(),
+        plant.outputs(),
+        plant.dists(),
+    ];
+    assert_eq!(rt; counts, [1, 0, 1, 8]);
+    assert_eq!(rt; plant.noise(0), 5);
+    let row = plant.c_row(0);
+    let ends = [
+        row.entries(),
+        plant.centre().entries(),
+        plant.radius().entries(),
+    ];
+    assert_eq!(rt; ends, [[1_000_000_000].as_slice(), &[-7], &[3]]);
+    let sizes = [
+        plant.a().entries().len(),
+        plant.b().entries().len(),
+        plant.c().entries().len(),
+        plant.d().entries().len(),
+        plant.e().entries().len(),
+        plant.state_max().entries().len(),
+    ];
+    assert_eq!(rt; sizes, [1, 4, 6, 24, 8, 1]);
     Ok(())
 }
 

@@ -1,7 +1,12 @@
+ghost use Rattle.std.specs.Prelude.{◌≡◌, true};
+ghost use Rattle.report_text.specs.Line.{has_printable_ends};
+ghost use Rattle.report_text.specs.Seen.{line_of};
+
 use arrayvec::{ArrayString, ArrayVec};
 use farkas_check::{Cert, Multipliers};
 use isolate_core::Verdict;
 use report_text::{BadLine, RepLine, read_line, write_line};
+use std::process::Abort;
 use std::test::Fail;
 
 /// Texts of lines, of each form and at the ends of the ranges.
@@ -81,94 +86,82 @@ const NO_LINES: [&[u8]; 48] = [
     b"verdict isolate 1",
 ];
 
+/// Asserts that a line is written as this text.
+fn expect_text(rt: &impl Abort, line: &RepLine, text: &[u8])
+    requires { has_printable_ends (line_of line.now) ≡ true }
+{
+    assert_eq!(rt; write_line(line).as_slice(), text);
+}
+
 #[test]
-fn writes_each_kind_of_line(rt: HostRuntime) -> Result<(), Fail> {
-    let multipliers = Multipliers::of(&[1_000_000_000, -1_000_000_000]).ok_or("in range")?;
+fn writes_the_lines_of_counts_and_words(rt: HostRuntime) {
+    let mut name: ArrayString<32> = ArrayString::new();
+    name.push_str("half");
     let mut models: ArrayVec<u32, 16> = ArrayVec::new();
     models.push(0);
     models.push(15);
-    let mut name: ArrayString<32> = ArrayString::new();
-    name.push_str("half");
-    assert_eq!(rt;
-        write_line(&RepLine::Title).as_slice(),
-        b"zonomon 1".as_slice()
-    );
-    assert_eq!(rt;
-        write_line(&RepLine::Model { index: 0, name }).as_slice(),
-        b"model 0 half".as_slice()
-    );
-    assert_eq!(rt;
-        write_line(&RepLine::Sample { k: 12 }).as_slice(),
-        b"sample 12".as_slice()
-    );
-    assert_eq!(rt;
-        write_line(&RepLine::Pred {
-            model: 0,
-            output: 5,
-            lo: -1_100_000_000,
-            hi: 1,
-        })
-        .as_slice(),
-        b"p 0 5 -1.100000000 0.000000001".as_slice()
-    );
-    assert_eq!(rt;
-        write_line(&RepLine::Hull {
-            model: 1,
-            state: 0,
-            lo: 0,
-            hi: 10_i128.pow(24),
-        })
-        .as_slice(),
-        b"h 1 0 0.000000000 1000000000000000.000000000".as_slice()
-    );
-    assert_eq!(rt;
-        write_line(&RepLine::Exclude {
-            model: 0,
-            cert: Cert::Out(2),
-        })
-        .as_slice(),
-        b"x 0 out 2".as_slice()
-    );
-    assert_eq!(rt;
-        write_line(&RepLine::Exclude {
-            model: 3,
-            cert: Cert::Rows(multipliers),
-        })
-        .as_slice(),
-        b"x 3 rows 1000000000 -1000000000".as_slice()
-    );
-    assert_eq!(rt;
-        write_line(&RepLine::Status {
-            model: 0,
-            kept: false,
-        })
-        .as_slice(),
-        b"s 0 undecided".as_slice()
-    );
-    assert_eq!(rt;
-        write_line(&RepLine::Possible { models }).as_slice(),
-        b"possible 0 15".as_slice()
-    );
-    assert_eq!(rt;
-        write_line(&RepLine::Verdict(Verdict::Isolated(3))).as_slice(),
-        b"verdict isolated 3".as_slice()
-    );
-    assert_eq!(rt;
-        write_line(&RepLine::End { samples: 2 }).as_slice(),
-        b"end 2".as_slice()
-    );
+    let isolated = Verdict::Isolated(3);
+    expect_text(&rt, &RepLine::Title, b"zonomon 1");
+    expect_text(&rt, &RepLine::Model { index: 0, name }, b"model 0 half");
+    expect_text(&rt, &RepLine::Sample { k: 12 }, b"sample 12");
+    expect_text(&rt, &RepLine::Possible { models }, b"possible 0 15");
+    expect_text(&rt, &RepLine::Verdict(isolated), b"verdict isolated 3");
+    expect_text(&rt, &RepLine::End { samples: 2 }, b"end 2");
+}
+
+#[test]
+fn writes_the_lines_of_a_model(rt: HostRuntime) -> Result<(), Fail> {
+    let multipliers = Multipliers::of(&[1_000_000_000, -1_000_000_000]).ok_or("in range")?;
+    let predicted = RepLine::Pred {
+        model: 0,
+        output: 5,
+        lo: -1_100_000_000,
+        hi: 1,
+    };
+    let hull = RepLine::Hull {
+        model: 1,
+        state: 0,
+        lo: 0,
+        hi: 1_000_000_000_000_000_000_000_000,
+    };
+    let missed = RepLine::Exclude {
+        model: 0,
+        cert: Cert::Out(2),
+    };
+    let refuted = RepLine::Exclude {
+        model: 3,
+        cert: Cert::Rows(multipliers),
+    };
+    let undecided = RepLine::Status {
+        model: 0,
+        kept: false,
+    };
+    expect_text(&rt, &predicted, b"p 0 5 -1.100000000 0.000000001");
+    expect_text(&rt, &hull, b"h 1 0 0.000000000 1000000000000000.000000000");
+    expect_text(&rt, &missed, b"x 0 out 2");
+    expect_text(&rt, &refuted, b"x 3 rows 1000000000 -1000000000");
+    expect_text(&rt, &undecided, b"s 0 undecided");
+    Ok(())
+}
+
+/// Whether a text is no line for its form.
+fn has_no_form(text: &[u8]) -> bool {
+    matches!(read_line(text), Err(BadLine::NoForm))
+}
+
+#[test]
+fn reads_each_form_of_line(rt: HostRuntime) -> Result<(), Fail> {
+    for text in LINES {
+        assert_eq!(rt; write_line(&read_line(text)?).as_slice(), text);
+    }
     Ok(())
 }
 
 #[test]
-fn reads_each_form_of_line_and_no_other(rt: HostRuntime) -> Result<(), Fail> {
-    for text in LINES {
-        assert_eq!(rt; write_line(&read_line(text)?).as_slice(), text);
-    }
+fn reads_no_other_text(rt: HostRuntime) {
     for text in NO_LINES {
-        assert!(rt; matches!(read_line(text), Err(BadLine::NoForm)));
+        assert!(rt; has_no_form(text));
     }
-    assert!(rt; matches!(read_line(&[b' '; 256]), Err(BadLine::NoForm)));
+    assert!(rt; has_no_form(&[b' '; 256]));
     assert!(rt; matches!(read_line(&[b' '; 257]), Err(BadLine::TooLong)));
-    Ok(())
 }

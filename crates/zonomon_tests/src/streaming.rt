@@ -3,14 +3,13 @@ ghost use Rattle.std.specs.Prelude.{◌≡◌, true, IfOk};
 ghost use Rattle.std.proofs.Common.{rules};
 ghost use Rattle.outside_io.specs.Shelf.{IsFresh};
 
+use crate::run::call;
 use crate::run::inputs::{P, WHEEL, WHEEL_ROWS};
 use crate::run::several_models::{FRICTION_ISOLATED, without_intervals};
-use crate::run::{Ran, words_of};
-use outside_io::{GetFault, MemShelf, MemSink, Shelf, SureSink};
+use outside_io::{GetFault, MemShelf, Shelf};
 use std::alloc::Global;
 use std::test::Fail;
 use telem_csv::{Fed, LineCutter};
-use zonomon_run::run;
 
 #[test]
 fn a_cutter_is_fed_byte_by_byte(rt: HostRuntime) {
@@ -135,20 +134,8 @@ impl Shelf for Watched {
     }
 }
 
-/// Runs the program over this shelf, where these calls of the output fail.
-fn run_on(alloc: Global, shelf: &mut Watched, puts: &[u64]) -> Result<Ran, Fail>
-    requires { IsFresh (⟦<MemShelf as Shelf>⟧.state shelf.old.shelf) }
-{
-    let words = words_of(alloc, &["run", "m", "t"])?;
-    let mut out = MemSink::of(alloc, puts)?;
-    let mut err = SureSink::of(alloc);
-    let status = run(alloc, &words, shelf, &mut out, &mut err);
-    Ok(Ran {
-        status,
-        report: String::from_utf8_lossy(alloc, out.held())?,
-        told: String::from_utf8_lossy(alloc, err.held())?,
-    })
-}
+/// The words of a run.
+const RUN: [&str; 3] = ["run", "m", "t"];
 
 /// The rows of the wheel, each with a thousand letters before its time.
 fn long_rows(alloc: Global) -> Result<String, Fail> {
@@ -185,7 +172,7 @@ fn the_rows_before_a_read_fault_are_in_the_report(rt: HostRuntime) -> Result<(),
             None => "",
         };
         let mut shelf = Watched::of(alloc, WHEEL, rows, &[(1, read + 1)])?;
-        let ran = run_on(alloc, &mut shelf, &[])?;
+        let ran = call(alloc, &RUN, &mut shelf, &[], &[])?;
         let told = "read fault: telemetry\n";
         assert_eq!(rt; (ran.status, ran.told.as_str()), (4, told));
         let lines = without_intervals(alloc, &ran.report)?;
@@ -242,7 +229,7 @@ fn a_row_is_reported_once_its_line_feed_is_read(rt: HostRuntime) -> Result<(), F
     for (letters, fourth) in [(1072, FOURTH_ROW), (1073, "")] {
         let rows = five_rows(alloc, letters)?;
         let mut shelf = Watched::of(alloc, P, &rows, &[(1, 3)])?;
-        let ran = run_on(alloc, &mut shelf, &[])?;
+        let ran = call(alloc, &RUN, &mut shelf, &[], &[])?;
         let mut report = String::from_str(alloc, THREE_ROWS)?;
         report.push_str(fourth)?;
         let told = "read fault: telemetry\n";
@@ -266,7 +253,7 @@ fn a_long_telemetry_is_read_to_its_end(rt: HostRuntime) -> Result<(), Fail> {
     let rows = many_rows(alloc)?;
     assert_eq!(rt; rows.len(), 17_221_504);
     let mut shelf = Watched::of(alloc, P, &rows, &[])?;
-    let ran = run_on(alloc, &mut shelf, &[])?;
+    let ran = call(alloc, &RUN, &mut shelf, &[], &[])?;
     assert_eq!(rt; (ran.status, ran.told.as_str()), (0, ""));
     assert!(rt; ran.report.ends_with("\nverdict isolated 0\nend 4300\n"));
     assert_eq!(rt; shelf.read_on(), 0);
@@ -278,7 +265,7 @@ fn nothing_is_read_ahead_of_a_failed_put(rt: HostRuntime) -> Result<(), Fail> {
     let alloc = rt.alloc();
     let rows = many_rows(alloc)?;
     let mut shelf = Watched::of(alloc, P, &rows, &[])?;
-    let ran = run_on(alloc, &mut shelf, &[1])?;
+    let ran = call(alloc, &RUN, &mut shelf, &[1], &[])?;
     assert_eq!(rt; ran.said(), (5, "", "write fault\n"));
     assert!(rt; shelf.read_on() >= 17_217_404);
     Ok(())

@@ -198,28 +198,45 @@ fn inputs_are_present_and_within_a_million_units(rt: HostRuntime) {
 
 #[test]
 fn the_byte_past_a_limit_refuses_its_line(rt: HostRuntime) {
-    let mut text = [b' '; 4100];
+    let mut text = [b' '; 4099];
     text[0] = b'y';
     text[1] = b'\n';
-    for step in [1, 4096, 5000] {
-        let long = read_in_pieces(rt.alloc(), false, 4099, &text[..4099], step);
-        assert_eq!(rt; long.fault, fault(2, TelemWhy::LongLine));
-        let both = read_in_pieces(rt.alloc(), false, 4098, &text[..4099], step);
-        assert_eq!(rt; both.fault, fault(2, TelemWhy::TooLong));
-        let most = read_in_pieces(rt.alloc(), false, 4098, &text[..4098], step);
-        assert_eq!(rt; most.fault, None);
-        assert_eq!(rt; most.samples, 1);
+    let cases = [
+        (4099, 4099, 0, fault(2, TelemWhy::LongLine)),
+        (4098, 4099, 0, fault(2, TelemWhy::TooLong)),
+        (4098, 4098, 1, None),
+    ];
+    for (limit, length, samples, refusal) in cases {
+        for step in [1, 4096, 5000] {
+            let done = read_in_pieces(rt.alloc(), false, limit, &text[..length], step);
+            assert_eq!(rt; (done.samples, done.fault), (samples, refusal));
+        }
     }
-    text[4097] = b'\r';
-    text[4098] = b'\n';
-    let ended = read_in_pieces(rt.alloc(), false, 4099, &text[..4099], 7);
-    assert_eq!(rt; ended.fault, None);
-    let past = read_in_pieces(rt.alloc(), false, 4098, &text[..4099], 7);
-    assert_eq!(rt; past.fault, fault(2, TelemWhy::TooLong));
-    text[4098] = b'\r';
-    text[4099] = b'\n';
-    let counted = read_in_pieces(rt.alloc(), false, 5000, &text, 7);
-    assert_eq!(rt; counted.fault, fault(2, TelemWhy::LongLine));
+}
+
+/// The carriage return right before a line feed is no byte of the line, and one before that is.
+#[test]
+fn the_end_of_a_line_counts_for_the_file_alone(rt: HostRuntime) {
+    let mut ended = [b' '; 4099];
+    ended[0] = b'y';
+    ended[1] = b'\n';
+    ended[4097] = b'\r';
+    ended[4098] = b'\n';
+    let mut longer = [b' '; 4100];
+    longer[0] = b'y';
+    longer[1] = b'\n';
+    longer[4097] = b'\r';
+    longer[4098] = b'\r';
+    longer[4099] = b'\n';
+    let cases: [(u64, &[u8], Option<TelemFault>); 3] = [
+        (4099, &ended, None),
+        (4098, &ended, fault(2, TelemWhy::TooLong)),
+        (5000, &longer, fault(2, TelemWhy::LongLine)),
+    ];
+    for (limit, text, refusal) in cases {
+        let done = read_in_pieces(rt.alloc(), false, limit, text, 7);
+        assert_eq!(rt; done.fault, refusal);
+    }
 }
 
 #[test]

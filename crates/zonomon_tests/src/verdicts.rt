@@ -2,8 +2,14 @@ use isolate_core::{Verdict, judge};
 
 #[test]
 fn judges_by_the_models_that_are_left(rt: HostRuntime) {
-    assert_eq!(rt; judge(&[false, true, true]), Verdict::Fault);
-    assert_eq!(rt; judge(&[true, true]), Verdict::Several);
-    assert_eq!(rt; judge(&[false]), Verdict::None);
-    assert_eq!(rt; judge(&[false, false, true]), Verdict::Isolated(2));
+    let cases: [(&[bool], Verdict); 4] = [
+        (&[false, true, true], Verdict::Fault),
+        (&[true, true], Verdict::Several),
+        (&[false], Verdict::None),
+        (&[false, false, true], Verdict::Isolated(2)),
+    ];
+    for (models, verdict) in cases {
+        assert!(rt; !models.is_empty() && models.len() <= 16);
+        assert_eq!(rt; judge(models), verdict);
+    }
 }

@@ -56,6 +56,7 @@ fn reading_at_the_edge_is_kept(rt: HostRuntime) -> Result<(), Fail> {
     Ok(())
 }
 
+/// A reading past the edge excludes the model.
 const PAST_THE_EDGE: &str = "zonomon 1
 model 0 P
 sample 0
@@ -66,13 +67,7 @@ verdict none
 end 1
 ";
 
-#[test]
-fn reading_past_the_edge_excludes(rt: HostRuntime) -> Result<(), Fail> {
-    let ran = run_over(rt.alloc(), P, "y\n1.100000001\n")?;
-    assert_eq!(rt; ran.said(), (0, PAST_THE_EDGE, ""));
-    Ok(())
-}
-
+/// A correction that would widen the set is not used.
 const UNUSED: &str = "zonomon 1
 model 0 P
 sample 0
@@ -90,13 +85,7 @@ verdict isolated 0
 end 2
 ";
 
-#[test]
-fn correction_that_would_widen_is_not_used(rt: HostRuntime) -> Result<(), Fail> {
-    let ran = run_over(rt.alloc(), P, "y\n0.5\n0.2\n")?;
-    assert_eq!(rt; ran.said(), (0, UNUSED, ""));
-    Ok(())
-}
-
+/// A model that was excluded stays so.
 const EXCLUDED: &str = "zonomon 1
 model 0 P
 sample 0
@@ -116,13 +105,7 @@ verdict none
 end 3
 ";
 
-#[test]
-fn excluded_model_stays_excluded(rt: HostRuntime) -> Result<(), Fail> {
-    let ran = run_over(rt.alloc(), P, "y\n0.5\n0.5\n0.5\n")?;
-    assert_eq!(rt; ran.said(), (0, EXCLUDED, ""));
-    Ok(())
-}
-
+/// A lost sample is predicted over.
 const LOST: &str = "zonomon 1
 model 0 P
 sample 0
@@ -139,13 +122,6 @@ possible 0
 verdict isolated 0
 end 2
 ";
-
-#[test]
-fn lost_sample_is_predicted_over(rt: HostRuntime) -> Result<(), Fail> {
-    let ran = run_over(rt.alloc(), P, "t,y\n0,\n1,NaN\n")?;
-    assert_eq!(rt; ran.said(), (0, LOST, ""));
-    Ok(())
-}
 
 const WIDEST: &str = "zonomon 1
 model 0 P
@@ -197,6 +173,7 @@ fn model_that_outgrows_the_range_is_undecided(rt: HostRuntime) -> Result<(), Fai
     Ok(())
 }
 
+/// An input moves the prediction.
 const MOVED: &str = "zonomon 1
 model 0 Q
 sample 0
@@ -214,18 +191,26 @@ verdict isolated 0
 end 2
 ";
 
-#[test]
-fn input_moves_the_prediction(rt: HostRuntime) -> Result<(), Fail> {
-    let ran = run_over(rt.alloc(), Q, "u,y\n2,NaN\n0,2.0\n")?;
-    assert_eq!(rt; ran.said(), (0, MOVED, ""));
-    Ok(())
-}
+/// A header alone has no samples.
+const NO_SAMPLES: &str = "zonomon 1
+model 0 P
+end 0
+";
 
 #[test]
-fn header_alone_has_no_samples(rt: HostRuntime) -> Result<(), Fail> {
-    for telemetry in ["y\n", "y", "\n\ny\r\n\n"] {
-        let ran = run_over(rt.alloc(), P, telemetry)?;
-        let report = "zonomon 1\nmodel 0 P\nend 0\n";
+fn each_run_over_one_model_has_its_report(rt: HostRuntime) -> Result<(), Fail> {
+    let cases = [
+        (P, "y\n1.100000001\n", PAST_THE_EDGE),
+        (P, "y\n0.5\n0.2\n", UNUSED),
+        (P, "y\n0.5\n0.5\n0.5\n", EXCLUDED),
+        (P, "t,y\n0,\n1,NaN\n", LOST),
+        (Q, "u,y\n2,NaN\n0,2.0\n", MOVED),
+        (P, "y\n", NO_SAMPLES),
+        (P, "y", NO_SAMPLES),
+        (P, "\n\ny\r\n\n", NO_SAMPLES),
+    ];
+    for (model, telemetry, report) in cases {
+        let ran = run_over(rt.alloc(), model, telemetry)?;
         assert_eq!(rt; ran.said(), (0, report, ""));
     }
     Ok(())
