@@ -51,126 +51,127 @@ fn report_of_a_run_is_accepted(rt: HostRuntime) -> Result<(), Fail> {
     Ok(())
 }
 
-/// A model file, a telemetry and their report: of two samples, of one, and of one before a row that is refused.
-const TWO: (&str, &str, &str) = (PAIR, TWO_ROWS, TOLD_APART);
-
-const ONE: (&str, &str, &str) = (P, "y\n0.5\n", HALF);
-
-const CUT: (&str, &str, &str) = (P, SHORT_ROW, HALF);
-
-/// Changes in a report, each with the line at which it then departs. A row that is refused is told where the report does not
-/// depart before it.
-const CHANGES: [((&str, &str, &str), &str, &str, (u8, &str)); 29] = [
-    (TWO, "zonomon 1\n", "", (7, "report refused: line 1\n")),
+/// Changes in the report of two samples, each with the line at which it then departs.
+const CHANGES: [(&str, &str, (u8, &str)); 20] = [
+    ("zonomon 1\n", "", (7, "report refused: line 1\n")),
     (
-        TWO,
         "zonomon 1\n",
         "zonomon 1\r\n",
         (7, "report refused: line 1\n"),
     ),
     (
-        TWO,
         "zonomon 1\n",
         "\nzonomon 1\n",
         (7, "report refused: line 1\n"),
     ),
-    (TWO, "model 1 minus\n", "", (7, "report refused: line 3\n")),
+    ("model 1 minus\n", "", (7, "report refused: line 3\n")),
     (
-        TWO,
         "h 0 0 0.386138612",
         "h 0 0 0.386138613",
         (7, "report refused: line 6\n"),
     ),
     (
-        TWO,
         "h 0 0 0.386138612",
         "h 0 0  0.386138612",
         (7, "report refused: line 6\n"),
     ),
     (
-        TWO,
         "h 0 0 0.386138612 0.603960398\n",
         "x 0 rows 1\n",
         (7, "report refused: line 6\n"),
     ),
     (
-        TWO,
         "s 1 fits\n",
         "s 1 undecided\n",
         (7, "report refused: line 10\n"),
     ),
     (
-        TWO,
         "possible 0 1\n",
         "possible 0\n",
         (7, "report refused: line 11\n"),
     ),
-    (TWO, "x 1 out 0\n", "", (7, "report refused: line 18\n")),
+    ("x 1 out 0\n", "", (7, "report refused: line 18\n")),
     (
-        TWO,
         "x 1 out 0\n",
         "x 1 out 1\n",
         (7, "report refused: line 18\n"),
     ),
     (
-        TWO,
         "x 1 out 0\n",
         "x 1 rows 1\n",
         (7, "report refused: line 18\n"),
     ),
     (
-        TWO,
         "x 1 out 0\n",
         "h 1 0 -0.301980200 -0.193069304\ns 1 fits\n",
         (7, "report refused: line 18\n"),
     ),
     (
-        TWO,
         "verdict isolated 0\n",
         "verdict fault\n",
         (7, "report refused: line 20\n"),
     ),
-    (TWO, "end 2\n", "", (7, "report refused: line 21\n")),
-    (TWO, "end 2\n", "end 2", (7, "report refused: line 21\n")),
-    (TWO, "end 2\n", "end 3\n", (7, "report refused: line 21\n")),
+    ("end 2\n", "", (7, "report refused: line 21\n")),
+    ("end 2\n", "end 2", (7, "report refused: line 21\n")),
+    ("end 2\n", "end 3\n", (7, "report refused: line 21\n")),
     (
-        TWO,
         "end 2\n",
         "end 2\nend 2\n",
         (7, "report refused: line 22\n"),
     ),
+    ("end 2\n", "end 2\n\n", (7, "report refused: line 22\n")),
+    ("end 2\n", "end 2\n ", (7, "report refused: line 22\n")),
+];
+
+#[test]
+fn changed_report_is_refused_at_its_first_line_that_departs(rt: HostRuntime) -> Result<(), Fail> {
+    let alloc = rt.alloc();
+    for (old, new, (status, told)) in CHANGES {
+        let report = TOLD_APART.replace(alloc, old, new)?;
+        let ran = check_over(alloc, PAIR, TWO_ROWS, &report)?;
+        assert_eq!(rt; ran.said(), (status, "", told), "{old} as {new}");
+    }
+    Ok(())
+}
+
+/// Changes at the end of the report of one sample.
+const CHANGED_ENDS: [(&str, &str, (u8, &str)); 2] = [
+    ("end 1\n", "end 1", (7, "report refused: line 9\n")),
     (
-        TWO,
-        "end 2\n",
-        "end 2\n\n",
-        (7, "report refused: line 22\n"),
-    ),
-    (TWO, "end 2\n", "end 2\n ", (7, "report refused: line 22\n")),
-    (ONE, "end 1\n", "end 1", (7, "report refused: line 9\n")),
-    (
-        ONE,
         "end 1\n",
         "end 1\nend 1\n",
         (7, "report refused: line 10\n"),
     ),
-    (CUT, "end 1\n", "end 1\n", (3, SHORT_ROW_TOLD)),
-    (CUT, "end 1\n", "", (3, SHORT_ROW_TOLD)),
-    (CUT, "end 1\n", "end 7", (3, SHORT_ROW_TOLD)),
-    (CUT, "end 1\n", "sample 1\n", (3, SHORT_ROW_TOLD)),
+];
+
+#[test]
+fn report_of_one_row_ends_with_its_end(rt: HostRuntime) -> Result<(), Fail> {
+    let alloc = rt.alloc();
+    for (old, new, (status, told)) in CHANGED_ENDS {
+        let report = HALF.replace(alloc, old, new)?;
+        let ran = check_over(alloc, P, "y\n0.5\n", &report)?;
+        assert_eq!(rt; ran.said(), (status, "", told), "{old} as {new}");
+    }
+    Ok(())
+}
+
+/// Changes in the report of one sample before a row that is refused.
+const CHANGES_BEFORE: [(&str, &str, (u8, &str)); 7] = [
+    ("end 1\n", "end 1\n", (3, SHORT_ROW_TOLD)),
+    ("end 1\n", "", (3, SHORT_ROW_TOLD)),
+    ("end 1\n", "end 7", (3, SHORT_ROW_TOLD)),
+    ("end 1\n", "sample 1\n", (3, SHORT_ROW_TOLD)),
     (
-        CUT,
         "h 0 0 0.386138612",
         "h 0 0 0.386138613",
         (7, "report refused: line 5\n"),
     ),
     (
-        CUT,
         "verdict isolated 0\nend 1\n",
         "",
         (7, "report refused: line 8\n"),
     ),
     (
-        CUT,
         "verdict isolated 0\nend 1\n",
         "verdict isolated 0",
         (7, "report refused: line 8\n"),
@@ -178,11 +179,13 @@ const CHANGES: [((&str, &str, &str), &str, &str, (u8, &str)); 29] = [
 ];
 
 #[test]
-fn changed_report_is_refused_at_its_first_line_that_departs(rt: HostRuntime) -> Result<(), Fail> {
+fn a_refused_row_is_told_where_the_report_does_not_depart_before(
+    rt: HostRuntime,
+) -> Result<(), Fail> {
     let alloc = rt.alloc();
-    for ((model, telemetry, whole), old, new, (status, told)) in CHANGES {
-        let report = whole.replace(alloc, old, new)?;
-        let ran = check_over(alloc, model, telemetry, &report)?;
+    for (old, new, (status, told)) in CHANGES_BEFORE {
+        let report = HALF.replace(alloc, old, new)?;
+        let ran = check_over(alloc, P, SHORT_ROW, &report)?;
         assert_eq!(rt; ran.said(), (status, "", told), "{old} as {new}");
     }
     Ok(())

@@ -60,17 +60,33 @@ const CHECKS: [Case; 10] = [
 ];
 
 #[test]
-fn each_fault_ends_the_call_at_its_place(rt: HostRuntime) -> Result<(), Fail> {
+fn each_fault_ends_a_run_at_its_place(rt: HostRuntime) -> Result<(), Fail> {
+    for (texts, gets, puts, said) in RUNS {
+        let ran = call_failing(rt.alloc(), texts, gets, puts)?;
+        assert_eq!(rt; ran.said(), said, "{texts:?} {gets:?} {puts:?}");
+    }
+    Ok(())
+}
+
+#[test]
+fn each_fault_ends_a_check_at_its_place(rt: HostRuntime) -> Result<(), Fail> {
+    for (texts, gets, puts, said) in CHECKS {
+        let ran = call_failing(rt.alloc(), texts, gets, puts)?;
+        assert_eq!(rt; ran.said(), said, "{texts:?} {gets:?} {puts:?}");
+    }
+    Ok(())
+}
+
+#[test]
+fn a_fault_at_the_end_leaves_all_lines_but_the_last(rt: HostRuntime) -> Result<(), Fail> {
     let whole = TOLD_APART.strip_suffix("end 2\n").unwrap_or("");
     let ends: [Case; 2] = [
         (RUN, &[(1, 3)], &[], (4, whole, "read fault: telemetry\n")),
         (RUN, &[], &[21], (5, whole, "write fault\n")),
     ];
-    for cases in [ends.as_slice(), &RUNS, &CHECKS] {
-        for (texts, gets, puts, said) in cases {
-            let ran = call_failing(rt.alloc(), texts, gets, puts)?;
-            assert_eq!(rt; ran.said(), *said, "{texts:?} {gets:?} {puts:?}");
-        }
+    for (texts, gets, puts, said) in ends {
+        let ran = call_failing(rt.alloc(), texts, gets, puts)?;
+        assert_eq!(rt; ran.said(), said, "{texts:?} {gets:?} {puts:?}");
     }
     Ok(())
 }
