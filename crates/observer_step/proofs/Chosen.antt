@@ -5,9 +5,9 @@ use Rattle.std.proofs.lemmas.Int.{ints}
 use Rattle.std.proofs.lemmas.Bool.Decides.{nat_tests}
 use lib.Pointwise.{pointwise}
 use Rattle.observer_step.specs.Predicted.{due}
-use Rattle.observer_step.specs.Answers.{is_chosen}
+use Rattle.observer_step.specs.Answers.{is_chosen, certificate_by}
 use Rattle.observer_step.specs.Sets.{correct_sets}
-use Rattle.observer_step.specs.SetsAnswers.{refutes_kept, candidate_of, certificate_by, CertificateIsChosen}
+use Rattle.observer_step.specs.SetsAnswers.{refutes_kept, candidate_of, CertificateIsChosen}
 
 same-list : (xs : List ℤ) → pointwise int_eq xs xs ≡ true
 same-list [] = refl
@@ -19,7 +19,7 @@ same-list (x ∷ xs) = ap (λ b. b && pointwise int_eq xs xs) (itself x) ∙ sam
 same-output : (o : ℕ) → (o == o) ≡ true
 same-output o = grind (arith, nat_tests)
 
-chosen : (output : Option ℕ) (refutes : List ℤ → Bool) (first : Option (List ℤ)) → is_chosen output refutes first (certificate_by output first) ≡ true
+pub chosen : (output : Option ℕ) (refutes : List ℤ → Bool) (first : Option (List ℤ)) → is_chosen output refutes first (certificate_by output first) ≡ true
 chosen (Some o) refutes first = same-output o
 chosen None refutes None = refl
 chosen None refutes (Some list) = same-list list

@@ -1,5 +1,5 @@
--- A set moved one sample on: which of both ways it goes, and what it is then.
-use Rattle.std.proofs.Common.{◌≡◌, ℕ, ◌-◌, ◌<◌, ◌≤◌, suc, List, length, Bool, true, false, not, if◌then◌else◌, ℤ, refl, sym, ap, ◌∙◌, arith}
+-- The image of a set under a plant: whether it stays in range, and what it is.
+use Rattle.std.proofs.Common.{◌≡◌, ℕ, ◌<◌, ◌≤◌, List, length, Bool, true, false, not, ℤ, refl, sym, ap, ◌∙◌, arith}
 use Rattle.std.proofs.lemmas.Int.{ints}
 use Rattle.set_rules.specs.Zono.{Zono, InRange}
 use Rattle.set_rules.specs.Reduce.{reduce_set}
@@ -8,7 +8,7 @@ use Rattle.set_rules.specs.Gain.{in_range}
 use Rattle.set_rules.proofs.ImageSets.{length-image}
 use Rattle.set_rules.proofs.TestsHold.{in_range-tests}
 use Rattle.plant_model.specs.Plant.{Plant, shift_of}
-use Rattle.observer_step.specs.Estimate.{trim, image_of, leaves_range, state_box, predict, predicted_set, is_widened, Estimate, LeadsOn}
+use Rattle.observer_step.specs.Estimate.{trim, image_of, leaves_range}
 
 -- a set that reaches past the range fails its test
 pub past-fails : (n : ℕ) (z : Zono) (i : ℕ) (mag : ℤ) → i < n → IsFirstPast z i mag → in_range n z ≡ false
@@ -38,28 +38,9 @@ module _ (p : Plant) (u : List ℤ) (z : Zono) (n : ℕ) (states : p.states ≡ 
   pub image-leaves : (i : ℕ) (mag : ℤ) → i < n → IsFirstPast (image n w a shift e reduced) i mag → leaves_range p u z ≡ true
   image-leaves i mag h first = tested false (past-fails n (image n w a shift e reduced) i mag h first)
 
-  pub imaged : (new : Zono) → new ≡ image n w a shift e reduced → leaves_range p u z ≡ false → new ≡ predict p u z
-  unfolding predict
-  imaged new is stays = is ∙ same-image ∙ sym (ap (λ b. if b then state_box p else image_of p u (trim p.states z)) stays)
-
-pub widened : (p : Plant) (u : List ℤ) (z new : Zono) → new ≡ state_box p → leaves_range p u z ≡ true → new ≡ predict p u z
-unfolding predict
-widened p u z new is leaves = is ∙ sym (ap (λ b. if b then state_box p else image_of p u (trim p.states z)) leaves)
-
 -- an image of at most 48 columns leaves room
 pub image-room : (n w : ℕ) (a shift e : List ℤ) (reduced new : Zono) → n ≤ 8 → w ≤ 8 → length reduced.columns ≤ 48 → new ≡ image n w a shift e reduced → length new.columns ≤ 64
 image-room n w a shift e reduced new states dists few is =
     let size : Zono → ℕ = λ z. length z.columns in
     let long = ap size is ∙ length-image n w a shift e reduced in
     omega arith
-
--- what is predicted of a corrected set is the set predicted at the next sample
-pub leads-on : (p : Plant) (u : List ℤ) (e e' : Estimate) (test : Bool) → e'.plain ≡ predict p u e.plain → test ≡ leaves_range p u e.plain → LeadsOn p u e e' test
-unfolding predicted_set
-leads-on p u e e' test new_is test_is samples corrected last =
-    let some = corrected.some in
-    let next : suc (length samples - 1) ≡ length samples = omega arith in
-    let set = corrected.is in (
-      new_is ∙ (λ i. predict p (sym last i) (set i)) ∙ ap (predicted_set p samples) next,
-      test_is ∙ (λ i. leaves_range p (sym last i) (set i)) ∙ ap (is_widened p samples) next,
-    )

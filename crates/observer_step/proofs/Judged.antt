@@ -1,17 +1,21 @@
--- What a sample says of a model, and what it leaves of its set.
-use Rattle.std.proofs.Common.{◌≡◌, ℕ, zero, suc, ◌+◌, ◌-◌, ◌<◌, List, [], ◌∷◌, ◌++◌, length, get_or, Bool, true, Option, None, option_map, ℤ, pos, refl, sym, ap, ◌∙◌, arith}
+-- What a sample says of a model, and what it leaves of its sets.
+use Rattle.std.proofs.Common.{◌≡◌, ℕ, zero, suc, ◌+◌, ◌-◌, ◌<◌, List, [], ◌∷◌, ◌++◌, length, get_or, Bool, true, not, ◌&&◌, is_none, Option, Some, None, ℤ, pos, refl, sym, ap, ◌∙◌, arith}
 use Rattle.std.proofs.lemmas.List.{get_or_push, length_push}
 use Rattle.set_rules.specs.Tests.{first_below, last_passing, or_else}
 use Rattle.set_rules.specs.Zono.{Zono}
 use Rattle.set_rules.proofs.ImageSets.{length-tabulate, get_or-tabulate}
-use Rattle.farkas_check.specs.Certificate.{Certificate, by_out}
+use Rattle.farkas_check.specs.Certificate.{Certificate, by_out, by_rows}
 use Rattle.fixed_mat.specs.declared.reading.Reading.{Reading}
 use Rattle.fixed_mat.specs.declared.reading.Reading.TheVariants.{Missing}
 use Rattle.plant_model.specs.Plant.{Plant, Sample, no_sample, sample_at, known, reading_at}
 use Rattle.observer_step.specs.Predicted.{out_of, predicted_outs, reading_misses, due}
-use Rattle.observer_step.specs.Estimate.{correct, predicted_set, corrected_set, Estimate, StandsReady, StandsCorrected}
-use Rattle.observer_step.specs.Answers.{zonotope_observer, due_at, is_justified, refutes_none, Judges, Justifies}
-use Rattle.observer_step.proofs.ExclusionHolds.{later-nothing}
+use Rattle.observer_step.specs.Answers.{due_at, certificate_by, certificate_at, is_justified, any_justified, allows_at}
+use Rattle.observer_step.specs.Offers.{offers_output}
+use Rattle.observer_step.specs.Sets.{Sets, correct_sets, correct_sets_if, predicted_sets, corrected_sets, SetsReady, SetsCorrected}
+use Rattle.observer_step.specs.SetsAnswers.{sets_observer, refutes_kept, candidate_of, certificate_of_sets, is_justified_of_sets}
+use Rattle.observer_step.specs.SetsAnswers.{sets_offered, Judges, Justifies}
+use Rattle.observer_step.proofs.Offered.{none-due, taken-justified}
+use Rattle.observer_step.proofs.SetsHold.{later-sets}
 
 -- the least number that passes depends on the tests below the bound alone
 first_below-same : (n : ℕ) (f g : ℕ → Bool) → ((i : ℕ) → i < n → f i ≡ g i) → first_below n f ≡ first_below n g
@@ -37,32 +41,74 @@ pub missed-is_due : (p : Plant) (s : Sample) (z : Zono) (outs : List (ℤ × ℤ
 missed-is_due p s z outs readings found is read found_is =
     found_is ∙ (λ i. first_below (length outs) (λ o. reading_misses (get_or outs o (pos 0, pos 0)) (known (get_or (read i) o Missing)))) ∙ due-found p s z outs is
 
-module _ (p : Plant) (s : Sample) (e e' : Estimate) (cert : Option Certificate) (fits : cert ≡ None → e'.plain ≡ correct p s e.plain) (samples : List Sample) (ready : StandsReady p samples e) where
+module _ (p : Plant) (s : Sample) (e : Sets) (samples : List Sample) (ready : SetsReady p samples e) where
   abbrev all : List Sample
   all = samples ++ s ∷ []
 
   here : sample_at all (length samples) ≡ s
   here = get_or_push samples s no_sample (length samples) refl
 
-  set : e.plain ≡ predicted_set p all (length samples)
-  set = ready ∙ sym (later-nothing p samples (s ∷ []) (length samples) (omega arith))
+  sets : e ≡ predicted_sets p all (length samples)
+  sets = ready ∙ sym (later-sets p samples (s ∷ []) (length samples) (omega arith))
 
-  due-here : due p s e.plain ≡ due_at zonotope_observer p all (length samples)
-  due-here = λ i. due p (sym here i) (set i)
+  due-here : due p s e.plain ≡ due_at sets_observer p all (length samples)
+  due-here = λ i. due p (sym here i) (sets i).plain
 
-  corrected-here : cert ≡ None → StandsCorrected p all e'
-  corrected-here none =
+  corrected-same : correct_sets p s e ≡ corrected_sets p all (length samples)
+  corrected-same = λ i. correct_sets p (sym here i) (sets i)
+
+  certificate-here : certificate_of_sets p s e ≡ certificate_at sets_observer p all (length samples)
+  certificate-here = λ i. certificate_by (due-here i) (candidate_of (corrected-same i).constrained)
+
+  justified-here : (c : Option Certificate) → is_justified_of_sets p s e c ≡ allows_at any_justified sets_observer p all (length samples) c
+  justified-here c = λ i. is_justified (due-here i) (refutes_kept (corrected-same i).constrained) c
+
+  corrected-here : (e' : Sets) → e' ≡ correct_sets p s e → SetsCorrected p all e'
+  corrected-here e' is =
       let long : length all ≡ length samples + 1 = length_push samples s in
       let last : length samples ≡ length all - 1 = omega arith in
       record {
         some = omega arith;
-        is = fits none ∙ (λ i. correct p (sym here i) (set i)) ∙ ap (corrected_set p all) last;
+        is = is ∙ corrected-same ∙ ap (corrected_sets p all) last;
       }
 
--- what holds of a set that is ready holds of the telemetry
-pub judges : (p : Plant) (s : Sample) (e e' : Estimate) (cert : Option Certificate) → cert ≡ option_map by_out (due p s e.plain) → (cert ≡ None → e'.plain ≡ correct p s e.plain) → Judges p s e e' cert
-judges p s e e' cert is fits samples ready = (is ∙ ap (option_map by_out) (due-here p s e e' cert fits samples ready), corrected-here p s e e' cert fits samples ready)
+-- the certificate that is given where the sets take the readings unless an output is due
+pub given : (p : Plant) (s : Sample) (e e' : Sets) (d : Option ℕ) → d ≡ due p s e.plain → e' ≡ correct_sets_if (true && is_none d) p s e
+    → certificate_by d (candidate_of e'.constrained) ≡ certificate_of_sets p s e
+given p s e e' d due_is sets = by d sets ∙ ap (λ d. certificate_by d (candidate_of (correct_sets p s e).constrained)) due_is
+  where
+    by : (d : Option ℕ) → e' ≡ correct_sets_if (true && is_none d) p s e
+        → certificate_by d (candidate_of e'.constrained) ≡ certificate_by d (candidate_of (correct_sets p s e).constrained)
+    by (Some o) sets = refl
+    by None sets = ap (λ (e : Sets). certificate_by None (candidate_of e.constrained)) sets
 
-pub justifies : (p : Plant) (s : Sample) (e e' : Estimate) (cert : Option Certificate) → is_justified (due p s e.plain) refutes_none cert ≡ true → (cert ≡ None → e'.plain ≡ correct p s e.plain) → Justifies p s e e' cert
-justifies p s e e' cert justified fits samples ready =
-    (ap (λ d. is_justified d refutes_none cert) (sym (due-here p s e e' cert fits samples ready)) ∙ justified, corrected-here p s e e' cert fits samples ready)
+-- what holds of sets that are ready holds of the telemetry
+pub judges : (p : Plant) (s : Sample) (e e' : Sets) (cert : Option Certificate) → cert ≡ certificate_of_sets p s e
+    → e' ≡ correct_sets_if (is_none (due p s e.plain)) p s e → Judges p s e e' cert
+judges p s e e' cert is sets samples ready =
+    let due_is = due p s e.plain in
+    let fits = λ (none : cert ≡ None). sets ∙ ap (λ b. correct_sets_if b p s e) (none-due due_is (candidate_of (correct_sets p s e).constrained) (sym is ∙ none)) in
+    (is ∙ certificate-here p s e samples ready, λ none. corrected-here p s e samples ready e' (fits none))
+
+-- what is justified by the rows that are kept after it
+pub justified-then : (p : Plant) (s : Sample) (e e' : Sets) (offered : Option Certificate) (d : Option ℕ) → d ≡ due p s e.plain → e' ≡ sets_offered p s e offered
+    → is_justified d (refutes_kept e'.constrained) offered ≡ true → is_justified_of_sets p s e offered ≡ true
+justified-then p s e e' offered d due_is sets justified =
+    let here : is_justified (due p s e.plain) (refutes_kept e'.constrained) offered ≡ true = ap (λ d. is_justified d (refutes_kept e'.constrained) offered) (sym due_is) ∙ justified in
+    by (due p s e.plain) offered sets here
+  where
+    by : (d : Option ℕ) (c : Option Certificate) → e' ≡ correct_sets_if (not (offers_output c) && is_none d) p s e
+        → is_justified d (refutes_kept e'.constrained) c ≡ true → is_justified d (refutes_kept (correct_sets p s e).constrained) c ≡ true
+    by (Some o) None sets h = absurd cc
+    by (Some o) (Some (by_out q)) sets h = h
+    by (Some o) (Some (by_rows ls)) sets h = absurd cc
+    by None None sets h = refl
+    by None (Some (by_out q)) sets h = absurd cc
+    by None (Some (by_rows ls)) sets h = ap (λ (x : Sets). is_justified None (refutes_kept x.constrained) (Some (by_rows ls))) (sym sets) ∙ h
+
+pub justifies : (p : Plant) (s : Sample) (e e' : Sets) (cert offered : Option Certificate) → cert ≡ offered
+    → is_justified_of_sets p s e offered ≡ true → e' ≡ sets_offered p s e offered → Justifies p s e e' cert
+justifies p s e e' cert offered is justified sets samples ready =
+    let taken = taken-justified (due p s e.plain) (refutes_kept (correct_sets p s e).constrained) offered justified in
+    let fits = λ (none : cert ≡ None). sets ∙ ap (λ b. correct_sets_if b p s e) (taken ∙ ap (λ c. not (offers_output c)) (sym is ∙ none)) in
+    (sym (justified-here p s e samples ready cert) ∙ ap (is_justified_of_sets p s e) is ∙ justified, λ none. corrected-here p s e samples ready e' (fits none))

@@ -13,3 +13,4 @@ pub mod RowsAligned
 pub mod BothImaged
 pub mod SetsHold
 pub mod Chosen
+pub mod Later

@@ -1,5 +1,5 @@
 -- What the definitions say of one model at a sample.
-use Rattle.std.specs.Prelude.{◌≡◌, ℕ, ◌==◌, ℤ, Bool, true, false, ◌&&◌, is_none, List, [], ◌∷◌, ◌++◌, length, Option, None, Some}
+use Rattle.std.specs.Prelude.{ℕ, ◌==◌, ℤ, Bool, true, false, ◌&&◌, is_none, List, [], Option, None, Some}
 use Rattle.std.specs.Prelude.{option_map, if◌then◌else◌}
 use Rattle.std.specs.Ordering.{int_eq}
 use lib.Pointwise.{pointwise}
@@ -8,7 +8,6 @@ use Rattle.farkas_check.specs.Multipliers.{are_multipliers}
 use Rattle.set_rules.specs.Zono.{Zono}
 use Rattle.plant_model.specs.Plant.{Plant, Sample, sample_at}
 use Rattle.observer_step.specs.Predicted.{predicted_outs, hulls, due}
-use Rattle.observer_step.specs.Estimate.{predicted_set, corrected_set, is_widened, Estimate, StandsReady, StandsCorrected}
 
 -- the predicted output intervals; whether the model was widened; its certificate, if it is excluded; and else the hulls of its states
 pub record Answer : Type 0 where
@@ -26,27 +25,18 @@ pub record Observer : Type 0 where
   pub refutes : Plant → List Sample → ℕ → List ℤ → Bool
   pub candidate : Plant → List Sample → ℕ → Option (List ℤ)
 
--- no rows are kept, so nothing refutes them
-abbrev pub refutes_none : List ℤ → Bool
-refutes_none multipliers = false
-
--- the zonotope that is predicted and corrected; it keeps no rows
-abbrev pub zonotope_observer : Observer
-zonotope_observer = record {
-  predicted = predicted_set;
-  corrected = corrected_set;
-  widened = is_widened;
-  refutes = λ p samples k. refutes_none;
-  candidate = λ p samples k. None;
-}
-
 -- the output that is due at sample k
 abbrev pub due_at : Observer → Plant → List Sample → ℕ → Option ℕ
 due_at o p samples k = due p (sample_at samples k) (o.predicted p samples k)
 
--- the certificate that is due
+-- the certificate of an output that is due; or where none is, that of a candidate, if there is one
+abbrev pub certificate_by : Option ℕ → Option (List ℤ) → Option Certificate
+certificate_by (Some o) candidate = Some (by_out o)
+certificate_by None candidate = option_map by_rows candidate
+
+-- the certificate at sample k: that of the output that is due, or else of the first candidate that refutes the kept rows
 abbrev pub certificate_at : Observer → Plant → List Sample → ℕ → Option Certificate
-certificate_at o p samples k = option_map by_out (due_at o p samples k)
+certificate_at o p samples k = certificate_by (due_at o p samples k) (o.candidate p samples k)
 
 -- a certificate, or none, is justified: where an output is due, its certificate alone; and else none, or multipliers that refute the kept rows
 abbrev pub is_justified : Option ℕ → (List ℤ → Bool) → Option Certificate → Bool
@@ -86,16 +76,3 @@ answer_with o p samples k c = record {
   certificate = c;
   hulls = if is_none c then hulls p (o.corrected p samples k) else [];
 }
-
--- where e is ready for the sample s after some samples, the certificate is the one that
--- is due there; and if there is none, e' is corrected by s
-abbrev pub Judges : Plant → Sample → Estimate → Estimate → Option Certificate → Type 0
-Judges p s e e' cert = (samples : List Sample) → StandsReady p samples e
-    → (cert ≡ certificate_at zonotope_observer p (samples ++ s ∷ []) (length samples))
-    × (cert ≡ None → StandsCorrected p (samples ++ s ∷ []) e')
-
--- where e is ready for the sample s after some samples, the certificate, or none, is justified there; and if there is none, e' is corrected by s
-abbrev pub Justifies : Plant → Sample → Estimate → Estimate → Option Certificate → Type 0
-Justifies p s e e' cert = (samples : List Sample) → StandsReady p samples e
-    → (is_justified (due_at zonotope_observer p (samples ++ s ∷ []) (length samples)) refutes_none cert ≡ true)
-    × (cert ≡ None → StandsCorrected p (samples ++ s ∷ []) e')

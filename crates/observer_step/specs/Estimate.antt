@@ -1,5 +1,6 @@
--- The set that follows a plant through its telemetry, in turns of prediction and correction (after Combastel 2003).
-use Rattle.std.specs.Prelude.{◌≡◌, ◌≤◌, ◌+◌, ◌*◌, ◌-◌, ℕ, zero, suc, List, length, replicate, Option, Some, None, ℤ, pos, ◌+ℤ◌}
+-- One set that follows a plant through its telemetry by itself, in turns of prediction and correction (after Combastel 2003).
+-- It is widened where its own image leaves the range. The plain set of an estimate takes the same steps (`Sets`).
+use Rattle.std.specs.Prelude.{◌+◌, ◌*◌, ℕ, zero, suc, List, replicate, Option, Some, None, ℤ, pos, ◌+ℤ◌}
 use Rattle.std.specs.Prelude.{Bool, false, not, if◌then◌else◌}
 use Rattle.set_rules.specs.Columns.{at}
 use Rattle.set_rules.specs.Zono.{Zono}
@@ -69,29 +70,6 @@ abbrev pub is_widened : Plant → List Sample → ℕ → Bool
 is_widened p samples zero = false
 is_widened p samples (suc k) = leaves_range p (sample_at samples k).inputs (corrected_set p samples k)
 
--- what an estimate of one model holds
-pub record Estimate : Type 0 where
-  pub plain : Zono
-
--- e has the predicted set of the sample that follows these
-abbrev pub StandsReady : Plant → List Sample → Estimate → Type 0
-StandsReady p samples e = e.plain ≡ predicted_set p samples (length samples)
-
--- e has the corrected set of the last of these samples
-pub record StandsCorrected (p : Plant) (samples : List Sample) (e : Estimate) : Type 0 where
-  pub some : 1 ≤ length samples
-  pub is : e.plain ≡ corrected_set p samples (length samples - 1)
-
 -- the most columns of an image of a set that was reduced
 abbrev pub image_columns : ℕ
 image_columns = plain_columns + 2 * most_states
-
--- room for the row of a reading, and for an image of the set once it is reduced
-abbrev pub HasRoom : Estimate → Type 0
-HasRoom e = length e.plain.columns ≤ image_columns
-
--- where e is corrected by samples that end with the inputs u, e' has the set predicted
--- from there, and the test says whether that is the state box
-abbrev pub LeadsOn : Plant → List ℤ → Estimate → Estimate → Bool → Type 0
-LeadsOn p u e e' test = (samples : List Sample) → StandsCorrected p samples e → (sample_at samples (length samples - 1)).inputs ≡ u
-    → StandsReady p samples e' × (test ≡ is_widened p samples (length samples))

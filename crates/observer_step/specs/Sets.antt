@@ -92,3 +92,9 @@ pub record SetsCorrected (p : Plant) (samples : List Sample) (e : Sets) : Type 0
 pub record HaveRoom (e : Sets) : Type 0 where
   pub plain : length e.plain.columns ≤ image_columns
   pub constrained : length e.constrained.base.columns ≤ constrained_columns + 1
+
+-- where e is corrected by samples that end with the inputs u, e' are the sets predicted from there, and the test says whether
+-- they are the state box
+abbrev pub LeadsOn : Plant → List ℤ → Sets → Sets → Bool → Type 0
+LeadsOn p u e e' test = (samples : List Sample) → SetsCorrected p samples e → (sample_at samples (length samples - 1)).inputs ≡ u
+    → SetsReady p samples e' × (test ≡ sets_widened p samples (length samples))

@@ -1,30 +1,41 @@
 -- What both sets say of a sample.
-use Rattle.std.specs.Prelude.{◌≡◌, ℕ, ℤ, Bool, true, false, not, ◌&&◌, List, length, Option, None, Some, option_map, is_none, Result, Ok, Err}
+use Rattle.std.specs.Prelude.{◌≡◌, ℤ, Bool, true, false, not, ◌&&◌, List, [], ◌∷◌, ◌++◌, length, Option, None, Some, option_map, is_none, if◌then◌else◌, Result, Ok, Err}
 use Rattle.set_rules.specs.Rows.{Czono}
 use Rattle.set_rules.specs.Farkas.{passes, first_candidate}
-use Rattle.farkas_check.specs.Certificate.{Certificate, by_out, by_rows, certificate_of}
+use Rattle.farkas_check.specs.Certificate.{Certificate, certificate_of}
+use Rattle.farkas_check.specs.Multipliers.{are_multipliers}
 use Rattle.farkas_check.specs.declared.certificate.Cert.{Cert}
 use Rattle.plant_model.specs.Plant.{Plant, Sample}
 use Rattle.observer_step.specs.Predicted.{due}
-use Rattle.observer_step.specs.Answers.{is_chosen, is_justified}
+use Rattle.observer_step.specs.Answers.{Observer, certificate_by, certificate_at, is_chosen, is_justified, any_justified, allows_at}
 use Rattle.observer_step.specs.Offers.{offers_output}
 use Rattle.observer_step.specs.Seen.{certificate_in}
 use Rattle.observer_step.specs.declared.outcome.Outcome.{Outcome}
 use Rattle.observer_step.specs.declared.outcome.NotJustified.{NotJustified}
-use Rattle.observer_step.specs.Sets.{Sets, correct_sets, correct_sets_if}
+use Rattle.observer_step.specs.Sets.{Sets, correct_sets, correct_sets_if, predicted_sets, corrected_sets, sets_widened, SetsReady, SetsCorrected}
 
 -- the multipliers refute the rows of the set
 abbrev pub refutes_kept : Czono → List ℤ → Bool
 refutes_kept z list = passes (length z.base.columns) z.rows list
 
--- the first candidate that refutes them
-abbrev pub candidate_of : Czono → Option (List ℤ)
-candidate_of z = first_candidate (length z.base.columns) z.rows
+-- the list, where its numbers are multipliers
+abbrev pub if_multipliers : Option (List ℤ) → Option (List ℤ)
+if_multipliers None = None
+if_multipliers (Some list) = if are_multipliers list then Some list else None
 
--- the certificate of an output that is due; or where none is, that of a candidate, if there is one
-abbrev pub certificate_by : Option ℕ → Option (List ℤ) → Option Certificate
-certificate_by (Some o) first = Some (by_out o)
-certificate_by None first = option_map by_rows first
+-- the first candidate that refutes them; one whose numbers are no multipliers would be none
+abbrev pub candidate_of : Czono → Option (List ℤ)
+candidate_of z = if_multipliers (first_candidate (length z.base.columns) z.rows)
+
+-- the estimate of both sets: what it says is read off the plain one, and the rows are those of the other
+abbrev pub sets_observer : Observer
+sets_observer = record {
+  predicted = λ p samples k. (predicted_sets p samples k).plain;
+  corrected = λ p samples k. (corrected_sets p samples k).plain;
+  widened = sets_widened;
+  refutes = λ p samples k. refutes_kept (corrected_sets p samples k).constrained;
+  candidate = λ p samples k. candidate_of (corrected_sets p samples k).constrained;
+}
 
 -- the certificate that a sample gives: the due one, or else that of the first candidate that refutes the rows kept then
 abbrev pub certificate_of_sets : Plant → Sample → Sets → Option Certificate
@@ -58,3 +69,17 @@ pub record SetsRefuse (p : Plant) (s : Sample) (e : Sets) (offered : Option Cert
 abbrev pub SetsAnswer : Plant → Sample → Sets → Option Cert → Result Outcome NotJustified → Type 0
 SetsAnswer p s e offered (Ok outcome) = SetsTake p s e offered outcome
 SetsAnswer p s e offered (Err why) = SetsRefuse p s e offered why
+
+-- where e is ready for the sample s after some samples, the certificate is that of the definitions there; and if there is none,
+-- e' is corrected by s
+abbrev pub Judges : Plant → Sample → Sets → Sets → Option Certificate → Type 0
+Judges p s e e' cert = (samples : List Sample) → SetsReady p samples e
+    → (cert ≡ certificate_at sets_observer p (samples ++ s ∷ []) (length samples))
+    × (cert ≡ None → SetsCorrected p (samples ++ s ∷ []) e')
+
+-- where e is ready for the sample s after some samples, the certificate, or none, is justified there; and if there is none, e' is
+-- corrected by s
+abbrev pub Justifies : Plant → Sample → Sets → Sets → Option Certificate → Type 0
+Justifies p s e e' cert = (samples : List Sample) → SetsReady p samples e
+    → (allows_at any_justified sets_observer p (samples ++ s ∷ []) (length samples) cert ≡ true)
+    × (cert ≡ None → SetsCorrected p (samples ++ s ∷ []) e')

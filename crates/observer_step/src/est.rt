@@ -1,77 +1,97 @@
-//! The estimate of one model: the set that follows its plant through the telemetry.
+//! The estimate of one model: the two sets that follow its plant through the telemetry.
 
-ghost use Rattle.std.specs.Prelude.{◌≡◌, ◌<◌, ◌≤◌, ◌^◌, [], true, None, IsSome, IfOk, length, option_map, unsigned_abs};
+ghost use Rattle.std.specs.Prelude.{IsTrue, ◌≡◌, ◌+◌, ◌<◌, ◌≤◌, ◌&&◌, not, [], true, length};
+ghost use Rattle.std.specs.Prelude.{is_none, option_map, unsigned_abs, if◌then◌else◌, IfOk};
 ghost use Rattle.std.specs.List.{list_all};
 ghost use Rattle.set_rules.specs.Box.{hull as hull_of};
-ghost use Rattle.set_rules.specs.Limits.{input_limit};
+ghost use Rattle.set_rules.specs.Keep.{without_rows};
+ghost use Rattle.set_rules.specs.Limits.{input_limit, constrained_columns};
 ghost use Rattle.set_rules.specs.Zono.{range};
-ghost use Rattle.farkas_check.specs.Certificate.{by_out, certificate_of};
 ghost use Rattle.plant_model.specs.Plant.{AllWithinLimit};
 ghost use Rattle.plant_model.specs.Seen.{sample_of};
-ghost use Rattle.observer_step.specs.Predicted.{first_set, predicted_outs, due};
-ghost use Rattle.observer_step.specs.Estimate.{leaves_range, predict as predict_of, correct as correct_of};
-ghost use Rattle.observer_step.specs.Estimate.{state_box as state_box_of, image_columns, StandsReady, LeadsOn};
-ghost use Rattle.observer_step.specs.Answers.{Judges, Justifies};
-ghost use Rattle.observer_step.specs.Offers.{set_offered, outs_in, answer_in, AnswersOffer};
+ghost use Rattle.observer_step.specs.Predicted.{predicted_outs, due};
+ghost use Rattle.set_rules.specs.Farkas.{first_candidate as first_candidate_of};
+ghost use Rattle.farkas_check.specs.Certificate.{certificate_of};
 ghost use Rattle.observer_step.specs.Seen.{was_widened, certificate_in, is_printable_interval};
+ghost use Rattle.observer_step.specs.Answers.{certificate_by};
+ghost use Rattle.observer_step.specs.SetsAnswers.{certificate_of_sets, if_multipliers, sets_offered, SetsAnswer};
+ghost use Rattle.observer_step.specs.SetsAnswers.{Judges, Justifies};
+ghost use Rattle.observer_step.specs.Offers.{outs_in, answer_in};
+ghost use Rattle.observer_step.specs.Predicted.{first_set};
+ghost use Rattle.observer_step.specs.Estimate.{image_of, trim, state_box as state_box_of, image_columns};
+ghost use Rattle.observer_step.specs.Sets.{first_sets, either_leaves, predict_sets, correct_sets_if, SetsReady, LeadsOn};
+ghost use Rattle.observer_step.specs.Sets.{settle, constrained_image};
 
 use crate::ahead::predicted;
 use crate::inputs::shift;
-use crate::offer::{is_justified, offers_output, outcome_by, outcome_due};
+use crate::offer::{is_justified, offers_output, outcome_by};
 use crate::pass::{Passed, pass_over};
 use crate::room::Room;
+use crate::rows::keep_readings;
 use crate::{Judgement, Kept, NotJustified, Outcome, PLAIN_COLUMNS, Unjustified};
 use arrayvec::ArrayVec;
-use farkas_check::Cert;
-use fixed_mat::Mat;
+use czono_set::Czono;
+use farkas_check::{Cert, first_candidate};
+use fixed_mat::{Mat, Rows};
 use plant_model::{Plant, Sample};
 use std::marker::Model;
 use zono_set::{Refusals, Zono};
 
-/// The set in which the state of a plant of `N` states lies at a sample: predicted by
-/// its image, corrected by its readings (after Combastel 2003).
+/// Two sets in which the state of a plant of `N` states lies at a sample: a plain one, and one whose symbols also satisfy
+/// the rows of the latest readings (after Combastel 2003; Scott, Raimondo, Marseglia and Braatz 2016).
 #[derive(Drop)]
 pub struct Est<const N: usize> {
     plain: Zono<N>,
-    /// How the set fared with the latest rows; no part of the estimate's value.
+    constrained: Czono<N>,
+    /// How the plain set fared with the latest rows; no part of the value.
     refusals: Refusals,
+    /// How the other fared with the rows that were taken out; no part of the value.
+    dropped: Refusals,
 }
 
 impl<const N: usize> Model for Est<N> {
-    ghost use Rattle.observer_step.specs.Estimate.{Estimate, HasRoom};
+    ghost use Rattle.observer_step.specs.Sets.{Sets, HaveRoom};
 
-    ghost Value = { Estimate };
+    ghost Value = { Sets };
 
-    ghost view = { λ e. record { plain = e.plain } };
+    ghost view = { λ e. record { plain = e.plain; constrained = e.constrained } };
 
-    ghost invariant = { λ e. HasRoom (record { plain = e.plain }) };
+    ghost invariant = { λ e. HaveRoom (record { plain = e.plain; constrained = e.constrained }) };
 }
 
 impl<const N: usize> Est<N> {
-    /// The set in which the plant starts.
+    /// The sets in which the plant starts; no rows are kept yet.
     pub fn begin(plant: &Plant<N>) -> Est<N>
-        ensures set { result.plain ≡ first_set plant.now }
-        ensures ready { StandsReady plant.now [] result }
+        ensures sets { result ≡ first_sets plant.now }
+        ensures ready { SetsReady plant.now [] result }
     {
         Est {
             plain: first_box(plant),
+            constrained: Czono::of(first_box(plant)),
             refusals: Refusals::new(),
+            dropped: Refusals::new(),
         }
     }
 
-    /// One sample on with the inputs `u` of the last sample, in nano-units. `Widened` where
-    /// the image leaves the range: the set is then the state box.
+    /// One sample on with the inputs `u` of the last sample, in nano-units. `Widened` where the image of either set
+    /// leaves the range: both are then the state box, and no row is kept.
     pub fn predict(&mut self, plant: &Plant<N>, u: &ArrayVec<i128, 4>) -> Kept
         requires count { length u.now.items ≡ plant.now.inputs }
         requires small { AllWithinLimit input_limit u.now.items }
-        ensures set { self.new.plain ≡ predict_of plant.now u.now.items self.old.plain }
-        ensures kept { was_widened result ≡ leaves_range plant.now u.now.items self.old.plain }
+        ensures sets { self.new ≡ predict_sets plant.now u.now.items self.old }
+        ensures kept { was_widened result ≡ either_leaves plant.now u.now.items self.old }
         ensures ready { LeadsOn plant.now u.now.items self.old self.new (was_widened result) }
     {
-        move_on(&mut self.plain, plant, u)
+        let _ = plant.states();
+        if take_images(&mut self.plain, &mut self.constrained, plant, u) {
+            self.constrained.settle();
+            return Kept::Imaged;
+        }
+        box_both(&mut self.plain, &mut self.constrained, plant);
+        Kept::Widened
     }
 
-    /// The predicted interval of each output with the inputs `u`, in nano-units, its ends within `10^24`.
+    /// The predicted interval of each output with the inputs `u`, in nano-units, its ends within `10^24`: by the plain set.
     pub fn outs(&self, plant: &Plant<N>, u: &ArrayVec<i128, 4>) -> ArrayVec<(i128, i128), 6>
         requires count { length u.now.items ≡ plant.now.inputs }
         requires small { AllWithinLimit input_limit u.now.items }
@@ -81,32 +101,22 @@ impl<const N: usize> Est<N> {
         predicted(&self.plain, plant, u)
     }
 
-    /// The least and the greatest value of state `i`, in nano-units.
-    pub fn hull(&self, i: usize) -> (i128, i128)
-        requires { i < N }
-        ensures value { result ≡ hull_of self.now.plain i }
-        ensures low { unsigned_abs result.0 ≤ range }
-        ensures high { unsigned_abs result.1 ≤ range }
-    {
-        self.plain.hull(i)
-    }
-
-    /// What the sample says of the model: the due certificate names the least output that misses.
-    /// Where it fits, the set takes each reading in order, and else it stays.
+    /// What the sample says of the model: the due certificate names the least output that misses, and the sets stay. Where none
+    /// is due both take the readings, and the first candidate that refutes the kept rows is the certificate.
     pub fn correct(&mut self, plant: &Plant<N>, sample: &Sample) -> Outcome
         requires inputs { length sample.now.u.items ≡ plant.now.inputs }
         requires outputs { length sample.now.y.items ≡ plant.now.outputs }
-        ensures outcome { certificate_in result ≡ option_map by_out (due plant.now (sample_of sample.now) self.old.plain) }
-        ensures fits { certificate_in result ≡ None → self.new.plain ≡ correct_of plant.now (sample_of sample.now) self.old.plain }
-        ensures excluded { IsSome (certificate_in result) → self.new ≡ self.old }
+        ensures outcome { certificate_in result ≡ certificate_of_sets plant.now (sample_of sample.now) self.old }
+        ensures sets { self.new
+            ≡ correct_sets_if (is_none (due plant.now (sample_of sample.now) self.old.plain)) plant.now (sample_of sample.now) self.old }
         ensures stands { Judges plant.now (sample_of sample.now) self.old self.new (certificate_in result) }
     {
         let mut room = Room::new();
         self.judge(plant, sample, &mut room).outcome
     }
 
-    /// The same by a certificate that is offered, or by none, where that is justified; else the answer is why not. The
-    /// set takes the readings where no output is due and none is offered, and else it stays.
+    /// The same by a certificate that is offered, or by none, where that is justified; else the answer is why not. The sets take
+    /// the readings where no output is due and none is offered, and else they stay.
     pub fn correct_with(
         &mut self,
         plant: &Plant<N>,
@@ -115,9 +125,9 @@ impl<const N: usize> Est<N> {
     ) -> Result<Outcome, NotJustified>
         requires inputs { length sample.now.u.items ≡ plant.now.inputs }
         requires outputs { length sample.now.y.items ≡ plant.now.outputs }
-        ensures outcome { AnswersOffer (due plant.now (sample_of sample.now) self.old.plain) offered result }
-        ensures set { self.new.plain
-            ≡ set_offered plant.now (sample_of sample.now) self.old.plain (option_map certificate_of offered) }
+        ensures outcome { SetsAnswer plant.now (sample_of sample.now) self.old offered result }
+        ensures sets { self.new
+            ≡ sets_offered plant.now (sample_of sample.now) self.old (option_map certificate_of offered) }
         ensures stands { IfOk result (λ outcome.
             Justifies plant.now (sample_of sample.now) self.old self.new (certificate_in outcome)) }
     {
@@ -128,30 +138,55 @@ impl<const N: usize> Est<N> {
         }
     }
 
-    /// What `outs` and `correct` say of the sample, by one computation in room that is lent:
-    /// the row of the first reading gives its predicted interval too.
-    pub fn judge(&mut self, plant: &Plant<N>, sample: &Sample, room: &mut Room) -> Judgement
+    /// Compares a sample with what the plain set predicts. Where no output is due, both sets take the readings if they are wanted.
+    fn pass(
+        &mut self,
+        plant: &Plant<N>,
+        sample: &Sample,
+        room: &mut Room,
+        wanted: bool,
+    ) -> Passed
         requires inputs { length sample.now.u.items ≡ plant.now.inputs }
         requires outputs { length sample.now.y.items ≡ plant.now.outputs }
         ensures outs { result.outs.items ≡ predicted_outs plant.now sample.now.u.items self.old.plain }
         ensures printable { list_all is_printable_interval result.outs.items ≡ true }
-        ensures outcome { certificate_in result.outcome ≡ option_map by_out (due plant.now (sample_of sample.now) self.old.plain) }
-        ensures fits { certificate_in result.outcome ≡ None → self.new.plain ≡ correct_of plant.now (sample_of sample.now) self.old.plain }
-        ensures excluded { IsSome (certificate_in result.outcome) → self.new ≡ self.old }
-        ensures stands { Judges plant.now (sample_of sample.now) self.old self.new (certificate_in result.outcome) }
+        ensures due { result.due ≡ due plant.now (sample_of sample.now) self.old.plain }
+        ensures sets { self.new ≡ correct_sets_if (wanted && is_none result.due) plant.now (sample_of sample.now) self.old }
     {
-        let Passed { outs, due } = pass_over(
+        let passed = pass_over(
             &mut self.plain,
             &mut self.refusals,
             room,
             plant,
             sample,
-            true,
+            wanted,
         );
-        Judgement {
-            outs,
-            outcome: outcome_due(due),
+        if wanted && passed.due.is_none() {
+            keep_readings(
+                &mut self.constrained,
+                &mut self.dropped,
+                room,
+                plant,
+                sample,
+            );
         }
+        passed
+    }
+
+    /// What `outs` and `correct` say of the sample, by one computation in room that is lent.
+    pub fn judge(&mut self, plant: &Plant<N>, sample: &Sample, room: &mut Room) -> Judgement
+        requires inputs { length sample.now.u.items ≡ plant.now.inputs }
+        requires outputs { length sample.now.y.items ≡ plant.now.outputs }
+        ensures outs { result.outs.items ≡ predicted_outs plant.now sample.now.u.items self.old.plain }
+        ensures printable { list_all is_printable_interval result.outs.items ≡ true }
+        ensures outcome { certificate_in result.outcome ≡ certificate_of_sets plant.now (sample_of sample.now) self.old }
+        ensures sets { self.new
+            ≡ correct_sets_if (is_none (due plant.now (sample_of sample.now) self.old.plain)) plant.now (sample_of sample.now) self.old }
+        ensures stands { Judges plant.now (sample_of sample.now) self.old self.new (certificate_in result.outcome) }
+    {
+        let Passed { outs, due } = self.pass(plant, sample, room, true);
+        let outcome = outcome_by(certificate(due, self.rows()));
+        Judgement { outs, outcome }
     }
 
     /// What `outs` and `correct_with` say of the sample, by one computation in room that is lent.
@@ -166,28 +201,94 @@ impl<const N: usize> Est<N> {
         requires outputs { length sample.now.y.items ≡ plant.now.outputs }
         ensures outs { outs_in result ≡ predicted_outs plant.now sample.now.u.items self.old.plain }
         ensures printable { list_all is_printable_interval (outs_in result) ≡ true }
-        ensures outcome { AnswersOffer (due plant.now (sample_of sample.now) self.old.plain) offered (answer_in result) }
-        ensures set { self.new.plain
-            ≡ set_offered plant.now (sample_of sample.now) self.old.plain (option_map certificate_of offered) }
+        ensures outcome { SetsAnswer plant.now (sample_of sample.now) self.old offered (answer_in result) }
+        ensures sets { self.new
+            ≡ sets_offered plant.now (sample_of sample.now) self.old (option_map certificate_of offered) }
         ensures stands { IfOk result (λ judgement.
             Justifies plant.now (sample_of sample.now) self.old self.new (certificate_in judgement.outcome)) }
     {
         let wanted = !offers_output(&offered);
-        let Passed { outs, due } = pass_over(
-            &mut self.plain,
-            &mut self.refusals,
-            room,
-            plant,
-            sample,
-            wanted,
-        );
-        if !is_justified(due, &offered) {
+        let Passed { outs, due } = self.pass(plant, sample, room, wanted);
+        if !is_justified(due, self.rows(), &offered) {
             let why = NotJustified { due, offered };
             return Err(Unjustified { outs, why });
         }
         let outcome = outcome_by(offered);
         Ok(Judgement { outs, outcome })
     }
+
+    /// The least and the greatest value of state `i`, in nano-units, by the plain set.
+    pub fn hull(&self, i: usize) -> (i128, i128)
+        requires { i < N }
+        ensures value { result ≡ hull_of self.now.plain i }
+        ensures low { unsigned_abs result.0 ≤ range }
+        ensures high { unsigned_abs result.1 ≤ range }
+    {
+        self.plain.hull(i)
+    }
+
+    /// The rows that are kept, oldest first.
+    pub fn rows(&self) -> &Rows
+        ensures rows { result.now.rows ≡ self.now.constrained.rows }
+        ensures width { result.now.width ≡ length self.now.constrained.base.columns }
+    {
+        self.constrained.rows()
+    }
+}
+
+/// The certificate of the output that is due, or else of the first candidate that refutes the rows.
+fn certificate(due: Option<u32>, rows: &Rows) -> Option<Cert>
+    ensures { option_map certificate_of result
+        ≡ certificate_by due (if_multipliers (first_candidate_of rows.now.width rows.now.rows)) }
+{
+    match due {
+        Some(o) => Some(Cert::Out(o)),
+        None => match first_candidate(rows) {
+            Some(multipliers) => Some(Cert::Rows(multipliers)),
+            None => None,
+        },
+    }
+}
+
+/// Takes the images of both sets; whether neither leaves the range. Where one does, the sets are not to be used.
+fn take_images<const N: usize>(
+    plain: &mut Zono<N>,
+    constrained: &mut Czono<N>,
+    plant: &Plant<N>,
+    u: &[i128],
+) -> bool
+    requires count { length u.now ≡ plant.now.inputs }
+    requires small { AllWithinLimit input_limit u.now }
+    requires room { length constrained.old.base.columns ≤ constrained_columns + 1 }
+    ensures stays { result ≡ not (either_leaves plant.now u.now (record { plain = plain.old; constrained = constrained.old })) }
+    ensures plain { IsTrue result → plain.new ≡ image_of plant.now u.now (trim plant.now.states plain.old) }
+    ensures constrained { IsTrue result → constrained.new ≡ constrained_image plant.now u.now constrained.old }
+    ensures room { IsTrue result → length plain.new.columns ≤ image_columns }
+{
+    let _ = plant.states();
+    let shift = shift(plant, u);
+    plain.reduce(PLAIN_COLUMNS);
+    match plain.image(plant.a(), &shift, plant.e(), plant.dists()) {
+        Err(_) => false,
+        Ok(()) => match constrained.image(plant.a(), &shift, plant.e(), plant.dists()) {
+            Err(_) => false,
+            Ok(()) => true,
+        },
+    }
+}
+
+/// Makes both sets the state box, with no rows. Kept out of line, since room for boxes is to be made only where they are.
+#[inline(never)]
+fn box_both<const N: usize>(plain: &mut Zono<N>, constrained: &mut Czono<N>, plant: &Plant<N>)
+    ensures plain { plain.new ≡ state_box_of plant.now }
+    ensures constrained { constrained.new ≡ settle plant.now.states (without_rows (state_box_of plant.now)) }
+    ensures plain_room { length plain.new.columns ≤ image_columns }
+    ensures room { length constrained.new.base.columns ≤ constrained_columns + 1 }
+{
+    let _ = plant.states();
+    *plain = state_box(plant);
+    *constrained = Czono::of(state_box(plant));
+    constrained.settle();
 }
 
 /// The box in which the plant starts.
@@ -206,32 +307,4 @@ pub fn state_box<const N: usize>(plant: &Plant<N>) -> Zono<N>
 {
     let _ = plant.states();
     Zono::of_box(&Mat::zero(), plant.state_max()).unwrap()
-}
-
-/// Moves a set one sample on: the image of its at most `PLAIN_COLUMNS` columns, or the state box.
-fn move_on<const N: usize>(set: &mut Zono<N>, plant: &Plant<N>, u: &[i128]) -> Kept
-    requires count { length u.now ≡ plant.now.inputs }
-    requires small { AllWithinLimit input_limit u.now }
-    ensures value { set.new ≡ predict_of plant.now u.now set.old }
-    ensures kept { was_widened result ≡ leaves_range plant.now u.now set.old }
-    ensures room { length set.new.columns ≤ image_columns }
-{
-    let _ = plant.states();
-    set.reduce(PLAIN_COLUMNS);
-    match set.image(plant.a(), &shift(plant, u), plant.e(), plant.dists()) {
-        Ok(()) => Kept::Imaged,
-        Err(_) => {
-            widen(set, plant);
-            Kept::Widened
-        }
-    }
-}
-
-/// Makes the set the state box. Kept out of line, since room for a box is to be made only where one is.
-#[inline(never)]
-fn widen<const N: usize>(set: &mut Zono<N>, plant: &Plant<N>)
-    ensures value { set.new ≡ state_box_of plant.now }
-    ensures room { length set.new.columns ≤ image_columns }
-{
-    *set = state_box(plant);
 }

@@ -27,7 +27,6 @@ mod est;
 mod inputs;
 mod offer;
 mod outcome;
-mod pair;
 mod pass;
 mod readings;
 mod room;
@@ -35,14 +34,13 @@ mod rows;
 
 pub use est::Est;
 pub use outcome::{Judgement, Kept, NotJustified, Outcome, Unjustified};
-pub use pair::SetPair;
-pub use pass::Passed;
 pub use room::Room;
 
 /// How many columns a set keeps between samples.
 const PLAIN_COLUMNS: usize = 48;
 
-/// The laws of the estimate: every trajectory is inside after each operation, and where a certificate is due there is none.
+/// The laws of one set that follows a plant by itself: every trajectory is inside after each operation, and where a reading
+/// misses there is none.
 pub fn laws()
     ensures begun { BeginHolds }
     ensures predict { PredictKeeps }
@@ -55,7 +53,7 @@ pub fn laws()
     ensures later { LaterChangesNothing }
 {}
 
-/// The laws of a plain set and one with rows side by side: every trajectory is in both, for all kept rows by one choice of
+/// The laws of an estimate, a plain set and one with rows side by side: every trajectory is in both, for all kept rows by one choice of
 /// symbols; where a reading misses, or multipliers refute the kept rows, there is none.
 pub fn laws_of_sets()
     ensures predicted { PredictedSetsHold }

@@ -1,9 +1,9 @@
 //! A certificate, or none, that is offered for a sample.
 
 ghost use Rattle.std.specs.Prelude.{◌≡◌, option_map};
-ghost use Rattle.farkas_check.specs.Certificate.{by_out, certificate_of};
+ghost use Rattle.farkas_check.specs.Certificate.{certificate_of};
 ghost use Rattle.set_rules.specs.Farkas.{passes as passes_of};
-ghost use Rattle.observer_step.specs.Answers.{is_justified as is_justified_of, refutes_none};
+ghost use Rattle.observer_step.specs.Answers.{is_justified as is_justified_of};
 ghost use Rattle.observer_step.specs.Offers.{offers_output};
 ghost use Rattle.observer_step.specs.Seen.{certificate_in};
 
@@ -11,24 +11,15 @@ use crate::Outcome;
 use farkas_check::{Cert, passes};
 use fixed_mat::Rows;
 
-/// Whether what is offered is justified where this output is due, or none. No rows are kept, so no multipliers are.
-pub fn is_justified(due: Option<u32>, offered: &Option<Cert>) -> bool
-    ensures { result ≡ is_justified_of due refutes_none (option_map certificate_of offered.now) }
-{
-    match (due, offered) {
-        (None, None) => true,
-        (Some(o), Some(Cert::Out(p))) => *p == o,
-        _ => false,
-    }
-}
-
 /// Whether what is offered is justified where this output is due, or none, and these rows are kept.
-pub fn is_justified_by(due: Option<u32>, rows: &Rows, offered: &Option<Cert>) -> bool
+pub fn is_justified(due: Option<u32>, rows: &Rows, offered: &Option<Cert>) -> bool
     ensures { result ≡ is_justified_of due (passes_of rows.now.width rows.now.rows) (option_map certificate_of offered.now) }
 {
     match (due, offered) {
+        (None, None) => true,
         (None, Some(Cert::Rows(multipliers))) => passes(rows, multipliers.list()),
-        _ => is_justified(due, offered),
+        (Some(o), Some(Cert::Out(p))) => *p == o,
+        _ => false,
     }
 }
 
@@ -48,16 +39,6 @@ pub fn outcome_by(cert: Option<Cert>) -> Outcome
 {
     match cert {
         Some(cert) => Outcome::Excluded(cert),
-        None => Outcome::Fits,
-    }
-}
-
-/// The outcome where this output is due, or none.
-pub fn outcome_due(due: Option<u32>) -> Outcome
-    ensures { certificate_in result ≡ option_map by_out due }
-{
-    match due {
-        Some(o) => Outcome::Excluded(Cert::Out(o)),
         None => Outcome::Fits,
     }
 }

@@ -4,7 +4,7 @@ use Rattle.set_rules.proofs.ReductionHolds.{reduction-fits}
 use Rattle.observer_step.specs.Sets.{Sets}
 use Rattle.observer_step.proofs.Imaged.{image-stays, image-leaves, image-room}
 use Rattle.observer_step.proofs.BothImaged.{both-stay, first-leaves, second-leaves}
-use Rattle.observer_step.proofs.pair.take_images.Goals as goal
+use Rattle.observer_step.proofs.est.take_images.Goals as goal
 
 pub image-requires : goal.image-requires
 image-requires g c =
