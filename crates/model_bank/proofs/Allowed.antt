@@ -3,8 +3,9 @@ use Rattle.std.proofs.Common.{◌≡◌, ℕ, Bool, true, false, not, ◌&&◌, 
 use Rattle.std.proofs.lemmas.List.{length-map}
 use Rattle.farkas_check.specs.Certificate.{Certificate}
 use Rattle.plant_model.specs.Plant.{Plant, Sample}
-use Rattle.observer_step.specs.Answers.{Observer, Rule, any_justified, zonotope_observer, due_at, certificate_at, allows_at}
-use Rattle.observer_step.proofs.Offered.{due-allowed}
+use Rattle.observer_step.specs.Answers.{Observer, Rule, any_justified, certificate_at, allows_at}
+use Rattle.observer_step.specs.SetsAnswers.{sets_observer}
+use Rattle.observer_step.proofs.Later.{certificate-allowed}
 use Rattle.model_bank.specs.Answers.{live_after, certificates_at, all_allowed}
 use Rattle.model_bank.specs.Bank.{Member, Bank, BankStands}
 use Rattle.model_bank.specs.Stepping.{Refusal, RefusesOffer}
@@ -41,16 +42,16 @@ allowed-many rule o (p ∷ ps) (live ∷ lives) (c ∷ cs) samples k h =
     by true h = h
     by false h = absurd cc
 
--- ---- what is due is allowed
+-- ---- what is given is allowed
 
 pub dues-allowed : (rule : Rule) (ps : List Plant) (lives : List Bool) (samples : List Sample) (k : ℕ) → length lives ≡ length ps
-    → all_allowed rule zonotope_observer ps lives (certificates_at zonotope_observer ps samples k) samples k ≡ true
+    → all_allowed rule sets_observer ps lives (certificates_at sets_observer ps samples k) samples k ≡ true
 dues-allowed rule [] [] samples k e = refl
 dues-allowed rule [] (live ∷ lives) samples k e = absurd cc
 dues-allowed rule (p ∷ ps) [] samples k e = absurd cc
 dues-allowed rule (p ∷ ps) (live ∷ lives) samples k e =
-    ap (λ b. (not live || b) && all_allowed rule zonotope_observer ps lives (certificates_at zonotope_observer ps samples k) samples k) (due-allowed rule (due_at zonotope_observer p samples k))
-    ∙ ap (λ b. b && all_allowed rule zonotope_observer ps lives (certificates_at zonotope_observer ps samples k) samples k) (by live)
+    ap (λ b. (not live || b) && all_allowed rule sets_observer ps lives (certificates_at sets_observer ps samples k) samples k) (certificate-allowed rule p samples k)
+    ∙ ap (λ b. b && all_allowed rule sets_observer ps lives (certificates_at sets_observer ps samples k) samples k) (by live)
     ∙ dues-allowed rule ps lives samples k (omega arith)
   where
     by : (b : Bool) → (not b || true) ≡ true
@@ -77,7 +78,7 @@ module _ (o : Observer) (samples : List Sample) (k : ℕ) (p : Plant) (ps : List
 
 -- where a model refuses its offer, the offers are not all allowed
 pub refused-not_allowed : (s : Sample) (offers : List (Option Certificate)) (plants : List Plant) (samples : List Sample) (lives : List Bool) (refusal : Refusal) → RefusesOffer s offers plants samples lives refusal
-    → all_allowed any_justified zonotope_observer plants lives offers (samples ++ s ∷ []) (length samples) ≡ false
+    → all_allowed any_justified sets_observer plants lives offers (samples ++ s ∷ []) (length samples) ≡ false
 refused-not_allowed s offers plants samples lives refusal r =
-    (λ i. all_allowed any_justified zonotope_observer (r.plants_are i) (r.lives_are i) (r.offers_are i) (samples ++ s ∷ []) (length samples))
-    ∙ one-fails zonotope_observer (samples ++ s ∷ []) (length samples) r.plant r.plants_above r.lives_above refusal.offered r.offers_above r.not_justified r.plants_below r.lives_below r.offers_below r.justified_below
+    (λ i. all_allowed any_justified sets_observer (r.plants_are i) (r.lives_are i) (r.offers_are i) (samples ++ s ∷ []) (length samples))
+    ∙ one-fails sets_observer (samples ++ s ∷ []) (length samples) r.plant r.plants_above r.lives_above refusal.offered r.offers_above r.not_justified r.plants_below r.lives_below r.offers_below r.justified_below

@@ -5,7 +5,8 @@ use Rattle.std.proofs.lemmas.List.{length_push, get_or_at}
 use Rattle.std.proofs.lemmas.List.Elements.{All-nil, All-cons, All-head, All-tail}
 use Rattle.farkas_check.specs.Certificate.{Certificate}
 use Rattle.plant_model.specs.Plant.{Plant, Sample, no_sample, sample_at}
-use Rattle.observer_step.specs.Answers.{zonotope_observer, answer_with, certificate_at, any_justified, allows_at}
+use Rattle.observer_step.specs.SetsAnswers.{sets_observer}
+use Rattle.observer_step.specs.Answers.{answer_with, certificate_at, any_justified, allows_at}
 use Rattle.isolate_core.specs.Verdict.{verdict_of, possible_models}
 use Rattle.model_bank.specs.Answers.{ModelAnswer, SampleAnswer, answer_if, answers_from, live_after, certificates_at, all_allowed, sample_answer}
 use Rattle.model_bank.specs.Bank.{Member, Bank, MemberStands, BankStands}
@@ -59,53 +60,53 @@ module _ (samples : List Sample) (s : Sample) (is_first : Bool) (u : List ℤ) (
 
   -- the answers on the live members
   pub answers-are : (i : ℕ) (ms : List Member) (cs : List (Option Certificate)) → All (MemberStands samples) ms
-      → answers_of is_first u s i ms cs ≡ answers_from zonotope_observer i (map (λ (m : Member). m.plant) ms) (map (λ (m : Member). m.live) ms) cs whole n
+      → answers_of is_first u s i ms cs ≡ answers_from sets_observer i (map (λ (m : Member). m.plant) ms) (map (λ (m : Member). m.live) ms) cs whole n
   answers-are i [] cs stand = refl
   answers-are i (m ∷ ms) [] stand = refl
   answers-are i (m ∷ ms) (c ∷ cs) stand =
       ap (answer_if m.live i (answer_of is_first u s m c)) (answers-are (i + 1) ms cs (All-tail (MemberStands samples) m ms stand))
-      ∙ by (answers_from zonotope_observer (i + 1) (map (λ (m : Member). m.plant) ms) (map (λ (m : Member). m.live) ms) cs whole n) m.live refl
+      ∙ by (answers_from sets_observer (i + 1) (map (λ (m : Member). m.plant) ms) (map (λ (m : Member). m.live) ms) cs whole n) m.live refl
     where
-      by : (rest : List ModelAnswer) (b : Bool) → m.live ≡ b → answer_if b i (answer_of is_first u s m c) rest ≡ answer_if b i (answer_with zonotope_observer m.plant whole n c) rest
+      by : (rest : List ModelAnswer) (b : Bool) → m.live ≡ b → answer_if b i (answer_of is_first u s m c) rest ≡ answer_if b i (answer_with sets_observer m.plant whole n c) rest
       by rest true l = ap (λ a. answer_if true i a rest) (answer-here samples s is_first u knows m (All-head (MemberStands samples) m ms stand) l c)
       by rest false l = refl
 
   -- and what is justified
   pub allowed-are : (ms : List Member) (cs : List (Option Certificate)) → All (MemberStands samples) ms
-      → all_justified is_first u s ms cs ≡ all_allowed any_justified zonotope_observer (map (λ (m : Member). m.plant) ms) (map (λ (m : Member). m.live) ms) cs whole n
+      → all_justified is_first u s ms cs ≡ all_allowed any_justified sets_observer (map (λ (m : Member). m.plant) ms) (map (λ (m : Member). m.live) ms) cs whole n
   allowed-are [] [] stand = refl
   allowed-are [] (c ∷ cs) stand = refl
   allowed-are (m ∷ ms) [] stand = refl
   allowed-are (m ∷ ms) (c ∷ cs) stand =
       ap (λ b. (not m.live || justified_of is_first u s m c) && b) (allowed-are ms cs (All-tail (MemberStands samples) m ms stand))
-      ∙ ap (λ b. b && all_allowed any_justified zonotope_observer (map (λ (m : Member). m.plant) ms) (map (λ (m : Member). m.live) ms) cs whole n) (by m.live refl)
+      ∙ ap (λ b. b && all_allowed any_justified sets_observer (map (λ (m : Member). m.plant) ms) (map (λ (m : Member). m.live) ms) cs whole n) (by m.live refl)
     where
-      by : (b : Bool) → m.live ≡ b → (not b || justified_of is_first u s m c) ≡ (not b || allows_at any_justified zonotope_observer m.plant whole n c)
+      by : (b : Bool) → m.live ≡ b → (not b || justified_of is_first u s m c) ≡ (not b || allows_at any_justified sets_observer m.plant whole n c)
       by true l = justified-here samples s is_first u knows m (All-head (MemberStands samples) m ms stand) l c
       by false l = refl
 
   -- what is due for the members is due for the plants, where that is asked
   dues-answered : (i : ℕ) (ms : List Member) → All (MemberStands samples) ms
-      → answers_from zonotope_observer i (map (λ (m : Member). m.plant) ms) (map (λ (m : Member). m.live) ms) (map (due_of is_first u s) ms) whole n
-      ≡ answers_from zonotope_observer i (map (λ (m : Member). m.plant) ms) (map (λ (m : Member). m.live) ms) (certificates_at zonotope_observer (map (λ (m : Member). m.plant) ms) whole n) whole n
+      → answers_from sets_observer i (map (λ (m : Member). m.plant) ms) (map (λ (m : Member). m.live) ms) (map (due_of is_first u s) ms) whole n
+      ≡ answers_from sets_observer i (map (λ (m : Member). m.plant) ms) (map (λ (m : Member). m.live) ms) (certificates_at sets_observer (map (λ (m : Member). m.plant) ms) whole n) whole n
   dues-answered i [] stand = refl
   dues-answered i (m ∷ ms) stand =
-      ap (answer_if m.live i (answer_with zonotope_observer m.plant whole n (due_of is_first u s m))) (dues-answered (i + 1) ms (All-tail (MemberStands samples) m ms stand))
-      ∙ by (answers_from zonotope_observer (i + 1) (map (λ (m : Member). m.plant) ms) (map (λ (m : Member). m.live) ms) (certificates_at zonotope_observer (map (λ (m : Member). m.plant) ms) whole n) whole n) m.live refl
+      ap (answer_if m.live i (answer_with sets_observer m.plant whole n (due_of is_first u s m))) (dues-answered (i + 1) ms (All-tail (MemberStands samples) m ms stand))
+      ∙ by (answers_from sets_observer (i + 1) (map (λ (m : Member). m.plant) ms) (map (λ (m : Member). m.live) ms) (certificates_at sets_observer (map (λ (m : Member). m.plant) ms) whole n) whole n) m.live refl
     where
       by : (rest : List ModelAnswer) (b : Bool) → m.live ≡ b
-          → answer_if b i (answer_with zonotope_observer m.plant whole n (due_of is_first u s m)) rest ≡ answer_if b i (answer_with zonotope_observer m.plant whole n (certificate_at zonotope_observer m.plant whole n)) rest
-      by rest true l = ap (λ c. answer_if true i (answer_with zonotope_observer m.plant whole n c) rest) (certificate-here samples s is_first u knows m (All-head (MemberStands samples) m ms stand) l)
+          → answer_if b i (answer_with sets_observer m.plant whole n (due_of is_first u s m)) rest ≡ answer_if b i (answer_with sets_observer m.plant whole n (certificate_at sets_observer m.plant whole n)) rest
+      by rest true l = ap (λ c. answer_if true i (answer_with sets_observer m.plant whole n c) rest) (certificate-here samples s is_first u knows m (All-head (MemberStands samples) m ms stand) l)
       by rest false l = refl
 
   dues-left : (ms : List Member) → All (MemberStands samples) ms
-      → live_after (map (λ (m : Member). m.live) ms) (map (due_of is_first u s) ms) ≡ live_after (map (λ (m : Member). m.live) ms) (certificates_at zonotope_observer (map (λ (m : Member). m.plant) ms) whole n)
+      → live_after (map (λ (m : Member). m.live) ms) (map (due_of is_first u s) ms) ≡ live_after (map (λ (m : Member). m.live) ms) (certificates_at sets_observer (map (λ (m : Member). m.plant) ms) whole n)
   dues-left [] stand = refl
   dues-left (m ∷ ms) stand =
       ap (λ bs. (m.live && is_none (due_of is_first u s m)) ∷ bs) (dues-left ms (All-tail (MemberStands samples) m ms stand))
-      ∙ ap (λ b. b ∷ live_after (map (λ (m : Member). m.live) ms) (certificates_at zonotope_observer (map (λ (m : Member). m.plant) ms) whole n)) (by m.live refl)
+      ∙ ap (λ b. b ∷ live_after (map (λ (m : Member). m.live) ms) (certificates_at sets_observer (map (λ (m : Member). m.plant) ms) whole n)) (by m.live refl)
     where
-      by : (b : Bool) → m.live ≡ b → (b && is_none (due_of is_first u s m)) ≡ (b && is_none (certificate_at zonotope_observer m.plant whole n))
+      by : (b : Bool) → m.live ≡ b → (b && is_none (due_of is_first u s m)) ≡ (b && is_none (certificate_at sets_observer m.plant whole n))
       by true l = ap is_none (certificate-here samples s is_first u knows m (All-head (MemberStands samples) m ms stand) l)
       by false l = refl
 
@@ -122,18 +123,18 @@ module _ (plants : List Plant) (samples : List Sample) (lives : List Bool) (s : 
 
   module _ (cs : List (Option Certificate)) where
     -- what the bank says of the sample is what the definitions say
-    pub bank-answers : bank_answer s b cs ≡ sample_answer zonotope_observer plants lives cs there (length samples)
+    pub bank-answers : bank_answer s b cs ≡ sample_answer sets_observer plants lives cs there (length samples)
     bank-answers =
         let answers = answers-are samples s (eqb b.count 0) b.last_inputs knows 0 b.members cs stands.members_stand
-        ∙ (λ i. answers_from zonotope_observer 0 (stands.plants_are i) (stands.lives_are i) cs there (length samples)) in
+        ∙ (λ i. answers_from sets_observer 0 (stands.plants_are i) (stands.lives_are i) cs there (length samples)) in
         let possible = lives-then (eqb b.count 0) b.last_inputs s b.members cs ∙ ap (λ bs. live_after bs cs) stands.lives_are in
         λ i. answer_by (stands.count_is i) (answers i) (possible i)
 
     -- and so is what is justified
-    pub bank-justifies : all_justified (eqb b.count 0) b.last_inputs s b.members cs ≡ all_allowed any_justified zonotope_observer plants lives cs there (length samples)
+    pub bank-justifies : all_justified (eqb b.count 0) b.last_inputs s b.members cs ≡ all_allowed any_justified sets_observer plants lives cs there (length samples)
     bank-justifies =
         allowed-are samples s (eqb b.count 0) b.last_inputs knows b.members cs stands.members_stand
-        ∙ (λ i. all_allowed any_justified zonotope_observer (stands.plants_are i) (stands.lives_are i) cs there (length samples))
+        ∙ (λ i. all_allowed any_justified sets_observer (stands.plants_are i) (stands.lives_are i) cs there (length samples))
 
     -- after the sample the bank stands for that too
     pub bank-stands : length cs ≡ length b.members → BankStands plants there (live_after lives cs) (bank_after s b cs)
@@ -149,16 +150,16 @@ module _ (plants : List Plant) (samples : List Sample) (lives : List Bool) (s : 
         }
 
   -- with what is due for the members the answer is that with what is due for the plants
-  pub dues-answer : sample_answer zonotope_observer plants lives (map (due_of (eqb b.count 0) b.last_inputs s) b.members) there (length samples)
-      ≡ sample_answer zonotope_observer plants lives (dues plants samples s) there (length samples)
+  pub dues-answer : sample_answer sets_observer plants lives (map (due_of (eqb b.count 0) b.last_inputs s) b.members) there (length samples)
+      ≡ sample_answer sets_observer plants lives (dues plants samples s) there (length samples)
   dues-answer =
       let cs = map (due_of (eqb b.count 0) b.last_inputs s) b.members in
-      let given : sample_answer zonotope_observer plants lives cs there (length samples) ≡ answer_by (length samples) (answers_from zonotope_observer 0 (map (λ (m : Member). m.plant) b.members) (map (λ (m : Member). m.live) b.members) cs there (length samples)) (live_after (map (λ (m : Member). m.live) b.members) cs) =
-      λ i. sample_answer zonotope_observer (sym stands.plants_are i) (sym stands.lives_are i) cs there (length samples) in
+      let given : sample_answer sets_observer plants lives cs there (length samples) ≡ answer_by (length samples) (answers_from sets_observer 0 (map (λ (m : Member). m.plant) b.members) (map (λ (m : Member). m.live) b.members) cs there (length samples)) (live_after (map (λ (m : Member). m.live) b.members) cs) =
+      λ i. sample_answer sets_observer (sym stands.plants_are i) (sym stands.lives_are i) cs there (length samples) in
       let answers = dues-answered samples s (eqb b.count 0) b.last_inputs knows 0 b.members stands.members_stand in
       let left = dues-left samples s (eqb b.count 0) b.last_inputs knows b.members stands.members_stand in
       given ∙ (λ i. answer_by (length samples) (answers i) (left i))
-      ∙ (λ i. sample_answer zonotope_observer (stands.plants_are i) (stands.lives_are i) (dues (stands.plants_are i) samples s) there (length samples))
+      ∙ (λ i. sample_answer sets_observer (stands.plants_are i) (stands.lives_are i) (dues (stands.plants_are i) samples s) there (length samples))
 
   pub dues-live : live_after lives (map (due_of (eqb b.count 0) b.last_inputs s) b.members) ≡ live_after lives (dues plants samples s)
   dues-live =

@@ -4,19 +4,19 @@ use Rattle.std.specs.List.{list_all}
 use Rattle.std.proofs.lemmas.Bool.Decides.{nat_tests}
 use Rattle.farkas_check.specs.Certificate.{Certificate, certificate_of}
 use Rattle.farkas_check.specs.declared.certificate.Cert.{Cert}
-use Rattle.set_rules.specs.Zono.{Zono}
 use Rattle.plant_model.specs.Plant.{Plant, Sample}
 use Rattle.observer_step.specs.Predicted.{predicted_outs, hulls, due}
-use Rattle.observer_step.specs.Estimate.{correct}
-use Rattle.observer_step.specs.Offers.{set_offered, outs_in, answer_in, AnswersOffer}
+use Rattle.observer_step.specs.Offers.{offers_output, outs_in, answer_in}
+use Rattle.observer_step.specs.Sets.{Sets, correct_sets, correct_sets_if}
+use Rattle.observer_step.specs.SetsAnswers.{refutes_kept, candidate_of, certificate_of_sets, is_justified_of_sets, sets_offered, SetsAnswer}
 use Rattle.observer_step.specs.Seen.{is_printable_interval}
 use Rattle.observer_step.specs.declared.outcome.Judgement.{Judgement}
 use Rattle.observer_step.specs.declared.outcome.Unjustified.{Unjustified}
-use Rattle.observer_step.proofs.Offered.{set-justified}
+use Rattle.observer_step.proofs.Offered.{taken-given, taken-justified}
 use Rattle.model_bank.specs.Answers.{ModelAnswer}
 use Rattle.model_bank.specs.Bank.{Member}
-use Rattle.model_bank.specs.Steps.{widens, justified_on, answer_on, answer_of, set_on, ahead_of, justified_of, told_of, judged_on, member_after}
-use Rattle.model_bank.specs.Claims.{claimed_on, claimed_of, SetTakes, SetRefuses, MemberRefuses}
+use Rattle.model_bank.specs.Steps.{widens, answer_on, answer_of, sets_on, ahead_of, justified_of, told_of, judged_on, member_after}
+use Rattle.model_bank.specs.Claims.{claimed_on, claimed_of, SetsTake, SetsRefuse, MemberRefuses}
 use Rattle.model_bank.specs.declared.claim.Claim.{Claim}
 use Rattle.model_bank.specs.declared.claim.Claim.TheVariants.{Offered}
 
@@ -39,86 +39,93 @@ printable-hull ends low high = ap (λ b. b && nat_le (unsigned_abs ends.1) (10 ^
 abbrev pub model_answer : ℕ → List (ℤ × ℤ) → Bool → Option Certificate → List (ℤ × ℤ) → ModelAnswer
 model_answer index outs is_widened certificate hs = record { index = index; answer = record { predicted = outs; is_widened = is_widened; certificate = certificate; hulls = hs } }
 
--- the set after a sample that is judged by the certificate that is due
-pub set-due : (p : Plant) (s : Sample) (z after : Zono) (c : Option Certificate) → (c ≡ None → after ≡ correct p s z) → (IsSome c → after ≡ z) → after ≡ set_on p s z c
-unfolding set_on
-set-due p s z after None fits stays = fits refl
-set-due p s z after (Some c) fits stays = stays refl
+-- the sets after a sample that is judged by the certificate that it gives
+pub sets-given : (p : Plant) (s : Sample) (e after : Sets) (c : Option Certificate) → c ≡ certificate_of_sets p s e → after ≡ correct_sets_if (is_none (due p s e.plain)) p s e → after ≡ sets_on p s e c
+unfolding sets_on
+sets-given p s e after c given sets =
+    sets ∙ ap (λ b. correct_sets_if b p s e) (taken-given (due p s e.plain) (candidate_of (correct_sets p s e).constrained) ∙ ap (λ c. not (offers_output c)) (sym given))
 
--- the set after a sample that is judged by an offer
-pub set-offered : (p : Plant) (s : Sample) (z after : Zono) (c : Option Certificate) → justified_on p s z c ≡ true → after ≡ set_offered p s z c → after ≡ set_on p s z c
-unfolding set_on
-set-offered p s z after c justified set = set-justified p s z after c justified set
+-- the sets after a sample that is judged by an offer
+pub sets-justified : (p : Plant) (s : Sample) (e after : Sets) (c : Option Certificate) → is_justified_of_sets p s e c ≡ true → after ≡ sets_offered p s e c → after ≡ sets_on p s e c
+unfolding sets_on
+sets-justified p s e after c justified sets =
+    sets ∙ ap (λ b. correct_sets_if b p s e) (taken-justified (due p s e.plain) (refutes_kept (correct_sets p s e).constrained) c justified)
 
 -- the answer to an offer
-pub offer-taken : (p : Plant) (s : Sample) (z after : Zono) (offered : Option Cert) (r : Result Judgement Unjustified) → outs_in r ≡ predicted_outs p s.inputs z → AnswersOffer (due p s z) offered (answer_in r)
-    → after ≡ set_offered p s z (option_map certificate_of offered) → IfOk r (SetTakes p s z after (Offered offered))
-offer-taken p s z after offered (Ok j) outs answer set = record {
+pub offer-taken : (p : Plant) (s : Sample) (e after : Sets) (offered : Option Cert) (r : Result Judgement Unjustified) → outs_in r ≡ predicted_outs p s.inputs e.plain → SetsAnswer p s e offered (answer_in r)
+    → after ≡ sets_offered p s e (option_map certificate_of offered) → IfOk r (SetsTake p s e after (Offered offered))
+offer-taken p s e after offered (Ok j) outs answer sets = record {
   outs_are = outs;
   certificate_is = answer.is;
   justified = answer.justified;
-  set_is = set-offered p s z after (option_map certificate_of offered) answer.justified set;
+  sets_are = sets-justified p s e after (option_map certificate_of offered) answer.justified sets;
 }
-offer-taken p s z after offered (Err e) outs answer set = tt
+offer-taken p s e after offered (Err why) outs answer sets = tt
 
-pub offer-refused : (p : Plant) (s : Sample) (z : Zono) (offered : Option Cert) (r : Result Judgement Unjustified) → outs_in r ≡ predicted_outs p s.inputs z → AnswersOffer (due p s z) offered (answer_in r)
-    → IfErr r (SetRefuses p s z (Offered offered))
-offer-refused p s z offered (Ok j) outs answer = tt
-offer-refused p s z offered (Err e) outs answer = record {
+pub offer-refused : (p : Plant) (s : Sample) (e : Sets) (offered : Option Cert) (r : Result Judgement Unjustified) → outs_in r ≡ predicted_outs p s.inputs e.plain → SetsAnswer p s e offered (answer_in r)
+    → IfErr r (SetsRefuse p s e (Offered offered))
+offer-refused p s e offered (Ok j) outs answer = tt
+offer-refused p s e offered (Err why) outs answer = record {
   claim_is = ap Offered (sym answer.offered_is);
-  not_justified = ap (λ o. justified_on p s z (option_map certificate_of o)) answer.offered_is ∙ answer.not_justified;
+  not_justified = ap (λ o. is_justified_of_sets p s e (option_map certificate_of o)) answer.offered_is ∙ answer.not_justified;
   due_is = answer.due_is;
   outs_are = outs;
 }
 
-module _ (p : Plant) (s : Sample) (z after : Zono) (c : Option Certificate) (set : after ≡ set_on p s z c) where
-  -- the hulls of a model that fits, and of one that does not
-  pub hulls-judged : (hs : List (ℤ × ℤ)) → is_none c ≡ true → hs ≡ hulls p after → hs ≡ (if is_none c then hulls p (correct p s z) else [])
-  unfolding set_on
-  hulls-judged hs e is = is ∙ ap (hulls p) (set ∙ ap (λ b. if b then correct p s z else z) e) ∙ sym (ap (λ b. if b then hulls p (correct p s z) else []) e)
+module _ (p : Plant) (s : Sample) (e after : Sets) (c : Option Certificate) (sets : after ≡ sets_on p s e c) where
+  -- the sets of a model that fits
+  fitted : is_none c ≡ true → after ≡ correct_sets p s e
+  unfolding sets_on
+  fitted none = sets ∙ by c none
+    where
+      by : (c : Option Certificate) → is_none c ≡ true → correct_sets_if (not (offers_output c)) p s e ≡ correct_sets p s e
+      by None none = refl
+      by (Some d) none = absurd cc
 
-  pub no_hulls-judged : (hs : List (ℤ × ℤ)) → is_none c ≡ false → hs ≡ [] → hs ≡ (if is_none c then hulls p (correct p s z) else [])
-  no_hulls-judged hs e is = is ∙ ap (λ b. if b then hulls p (correct p s z) else []) (sym e)
+  -- the hulls of a model that fits, and of one that does not
+  pub hulls-judged : (hs : List (ℤ × ℤ)) → is_none c ≡ true → hs ≡ hulls p after.plain → hs ≡ (if is_none c then hulls p (correct_sets p s e).plain else [])
+  hulls-judged hs none is = is ∙ ap (λ (x : Sets). hulls p x.plain) (fitted none) ∙ sym (ap (λ b. if b then hulls p (correct_sets p s e).plain else []) none)
+
+  pub no_hulls-judged : (hs : List (ℤ × ℤ)) → is_none c ≡ false → hs ≡ [] → hs ≡ (if is_none c then hulls p (correct_sets p s e).plain else [])
+  no_hulls-judged hs some is = is ∙ ap (λ b. if b then hulls p (correct_sets p s e).plain else []) (sym some)
 
   -- the answer
-  pub answer-judged : (index : ℕ) (is_widened : Bool) (outs hs : List (ℤ × ℤ)) → outs ≡ predicted_outs p s.inputs z → hs ≡ (if is_none c then hulls p (correct p s z) else [])
-      → model_answer index outs is_widened c hs ≡ record { index = index; answer = answer_on p s z is_widened c }
+  pub answer-judged : (index : ℕ) (is_widened : Bool) (outs hs : List (ℤ × ℤ)) → outs ≡ predicted_outs p s.inputs e.plain → hs ≡ (if is_none c then hulls p (correct_sets p s e).plain else [])
+      → model_answer index outs is_widened c hs ≡ record { index = index; answer = answer_on p s e is_widened c }
   unfolding answer_on
-  answer-judged index is_widened outs hs e h =
-      ap (λ xs. model_answer index xs is_widened c hs) e
-      ∙ ap (λ xs. model_answer index (predicted_outs p s.inputs z) is_widened c xs) h
+  answer-judged index is_widened outs hs outs_are hulls_are = λ i. model_answer index (outs_are i) is_widened c (hulls_are i)
 
 -- the member of these parts
-abbrev pub member_with : Plant → Zono → Bool → Member
-member_with p z b = record { plant = p; estimate = record { plain = z }; live = b }
+abbrev pub member_with : Plant → Sets → Bool → Member
+member_with p e b = record { plant = p; estimate = e; live = b }
 
--- a live member of which p is the plant and z the predicted set
-module _ (is_first : Bool) (u : List ℤ) (s : Sample) (m : Member) (live : m.live ≡ true) (p : Plant) (same : p ≡ m.plant) (z : Zono) (ahead : z ≡ ahead_of is_first u m) (claim : Claim) where
+-- a live member of which p is the plant and z the predicted sets
+module _ (is_first : Bool) (u : List ℤ) (s : Sample) (m : Member) (live : m.live ≡ true) (p : Plant) (same : p ≡ m.plant) (z : Sets) (ahead : z ≡ ahead_of is_first u m) (claim : Claim) where
   pub claimed-same : claimed_on p s z claim ≡ claimed_of is_first u s m claim
   claimed-same = λ i. claimed_on (same i) s (ahead i) claim
 
-  pub justified-taken : justified_on p s z (claimed_on p s z claim) ≡ true → (not m.live || justified_of is_first u s m (claimed_of is_first u s m claim)) ≡ true
+  pub justified-taken : is_justified_of_sets p s z (claimed_on p s z claim) ≡ true → (not m.live || justified_of is_first u s m (claimed_of is_first u s m claim)) ≡ true
   justified-taken is =
       ap (λ b. not b || justified_of is_first u s m (claimed_of is_first u s m claim)) live
-      ∙ sym (λ i. justified_on (same i) s (ahead i) (claimed-same i)) ∙ is
+      ∙ sym (λ i. is_justified_of_sets (same i) s (ahead i) (claimed-same i)) ∙ is
 
-  pub answer-taken : (index : ℕ) (w : Bool) (model : ModelAnswer) → w ≡ widens is_first u m.plant m.estimate.plain → model ≡ record { index = index; answer = answer_on p s z w (claimed_on p s z claim) }
+  pub answer-taken : (index : ℕ) (w : Bool) (model : ModelAnswer) → w ≡ widens is_first u m.plant m.estimate → model ≡ record { index = index; answer = answer_on p s z w (claimed_on p s z claim) }
       → Some model ≡ told_of is_first u s index m (claimed_of is_first u s m claim)
   answer-taken index w model e is =
       ap Some (is ∙ (λ i. record { index = index; answer = answer_on (same i) s (ahead i) (e i) (claimed-same i) }))
       ∙ sym (ap (λ b. if b then Some (record { index = index; answer = answer_of is_first u s m (claimed_of is_first u s m claim) }) else None) live)
 
-  pub member-taken : (after : Zono) (b : Bool) → after ≡ set_on p s z (claimed_on p s z claim) → b ≡ is_none (claimed_on p s z claim) → member_with p after b ≡ member_after is_first u s m (claimed_of is_first u s m claim)
+  pub member-taken : (after : Sets) (b : Bool) → after ≡ sets_on p s z (claimed_on p s z claim) → b ≡ is_none (claimed_on p s z claim) → member_with p after b ≡ member_after is_first u s m (claimed_of is_first u s m claim)
   member-taken after b e f =
       (λ i. member_with p (e i) (f i))
       ∙ (λ i. judged_on (same i) s (ahead i) (claimed-same i))
       ∙ sym (ap (λ b. if b then judged_on m.plant s (ahead_of is_first u m) (claimed_of is_first u s m claim) else m) live)
 
-  pub member-refuses : (e : Unjustified) → SetRefuses p s z claim e → MemberRefuses is_first u s m claim e
-  member-refuses e refuses = record { live = live; refuses = subst (λ (a : Plant × Zono). SetRefuses a.0 s a.1 claim e) (λ i. (same i, ahead i)) refuses }
+  pub member-refuses : (e : Unjustified) → SetsRefuse p s z claim e → MemberRefuses is_first u s m claim e
+  member-refuses e refuses = record { live = live; refuses = subst (λ (a : Plant × Sets). SetsRefuse a.0 s a.1 claim e) (λ i. (same i, ahead i)) refuses }
 
 -- whether the model fits stands in its answer
-pub certificate-in : (p : Plant) (s : Sample) (z : Zono) (index : ℕ) (w : Bool) (c : Option Certificate) (model : ModelAnswer) → model ≡ record { index = index; answer = answer_on p s z w c } → is_none model.answer.certificate ≡ is_none c
+pub certificate-in : (p : Plant) (s : Sample) (z : Sets) (index : ℕ) (w : Bool) (c : Option Certificate) (model : ModelAnswer) → model ≡ record { index = index; answer = answer_on p s z w c } → is_none model.answer.certificate ≡ is_none c
 unfolding answer_on
 certificate-in p s z index w c model is = ap (λ (a : ModelAnswer). is_none a.answer.certificate) is
 

@@ -157,9 +157,9 @@ module _ (is_first : Bool) (u : List ℤ) (s : Sample) (old : List Member) (offe
         live = sym (ap (λ (m : Member). m.live) here) ∙ refuses.live;
         justified_below = all;
         not_justified = sym (ap (λ (m : Member). justified_of is_first u s m (option_map certificate_of e.why.offered)) here) ∙ refuses.refuses.not_justified;
-        due_is = refuses.refuses.due_is ∙ ap (λ (m : Member). due m.plant s (ahead_of is_first u m)) here;
+        due_is = refuses.refuses.due_is ∙ ap (λ (m : Member). due m.plant s (ahead_of is_first u m).plain) here;
         before_are = so_far;
-        predicted_are = refuses.refuses.outs_are ∙ ap (λ (m : Member). predicted_outs m.plant s.inputs (ahead_of is_first u m)) here;
+        predicted_are = refuses.refuses.outs_are ∙ ap (λ (m : Member). predicted_outs m.plant s.inputs (ahead_of is_first u m).plain) here;
       }
 
 -- the items of a Vec once a list is written back

@@ -26,7 +26,7 @@ abbrev pub live_after : List Bool → List (Option Certificate) → List Bool
 live_after (live ∷ lives) (c ∷ cs) = (live && is_none c) ∷ live_after lives cs
 live_after _ _ = []
 
--- the certificates that are due at sample k, or none, by model
+-- the certificates at sample k, or none, by model: those that are due, or of the first candidates
 abbrev pub certificates_at : Observer → List Plant → List Sample → ℕ → List (Option Certificate)
 certificates_at o ps samples k = map (λ p. certificate_at o p samples k) ps
 

@@ -1,16 +1,14 @@
 -- A bank, and the list of samples that it stands for.
 use Rattle.std.specs.Prelude.{◌≡◌, ℕ, zero, suc, ◌-◌, ◌≤◌, true, Bool, List, length, map, All, ℤ}
-use Rattle.set_rules.specs.Zono.{Zono}
 use Rattle.set_rules.specs.Limits.{input_limit}
 use Rattle.plant_model.specs.Plant.{Plant, Sample, sample_at, AllWithinLimit}
-use Rattle.observer_step.specs.Predicted.{first_set}
-use Rattle.observer_step.specs.Estimate.{Estimate, corrected_set}
+use Rattle.observer_step.specs.Sets.{Sets, first_sets, corrected_sets}
 use Rattle.model_file.specs.Bank.{Models}
 
 -- one model of a bank
 pub record Member : Type 0 where
   pub plant : Plant
-  pub estimate : Estimate
+  pub estimate : Sets
   pub live : Bool
 
 -- the counts of inputs and outputs of all models, the models, how many samples were taken, and the inputs of the last of them
@@ -39,16 +37,16 @@ pub record IsBank (bank : Bank) : Type 0 where
 
 -- a member before the first sample
 abbrev pub begun : Plant → Member
-begun p = record { plant = p; estimate = record { plain = first_set p }; live = true }
+begun p = record { plant = p; estimate = first_sets p; live = true }
 
--- the set of a model after these samples: where it starts, or corrected by the last of them
-abbrev pub set_after : Plant → List Sample → ℕ → Zono
-set_after p samples zero = first_set p
-set_after p samples (suc k) = corrected_set p samples k
+-- the sets of a model after these samples: where it starts, or corrected by the last of them
+abbrev pub sets_after : Plant → List Sample → ℕ → Sets
+sets_after p samples zero = first_sets p
+sets_after p samples (suc k) = corrected_sets p samples k
 
 -- a member stands for these samples: where it is live, its estimate is that of the samples
 abbrev pub MemberStands : List Sample → Member → Type 0
-MemberStands samples m = m.live ≡ true → m.estimate.plain ≡ set_after m.plant samples (length samples)
+MemberStands samples m = m.live ≡ true → m.estimate ≡ sets_after m.plant samples (length samples)
 
 -- a bank of these plants, of which these are live, stands for these samples
 pub record BankStands (plants : List Plant) (samples : List Sample) (lives : List Bool) (bank : Bank) : Type 0 where

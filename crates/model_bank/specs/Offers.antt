@@ -14,7 +14,7 @@ use Rattle.model_bank.specs.Stepping.{Refusal}
 use Rattle.model_bank.specs.declared.claim.Claim.{Claim}
 use Rattle.model_bank.specs.declared.claim.Claim.TheVariants.{Due, Offered}
 
--- the claim on model i: what is offered for it, or what is due where nothing is offered for any
+-- the claim on model i: what is offered for it, or what the sample gives where nothing is offered for any
 abbrev pub claim_at : Option (Bor (List (Option Cert))) → ℕ → Claim
 claim_at None i = Due
 claim_at (Some offers) i = Offered (slice_index_or offers.now i None)
@@ -45,9 +45,9 @@ pub record RefusesMember (is_first : Bool) (u : List ℤ) (s : Sample) (offered 
   pub live : member.live ≡ true
   pub justified_below : all_justified is_first u s below claims_below ≡ true
   pub not_justified : justified_of is_first u s member refusal.offered ≡ false
-  pub due_is : refusal.due ≡ due member.plant s (ahead_of is_first u member)
+  pub due_is : refusal.due ≡ due member.plant s (ahead_of is_first u member).plain
   pub before_are : refusal.before ≡ answers_of is_first u s 0 below claims_below
-  pub predicted_are : refusal.predicted ≡ predicted_outs member.plant s.inputs (ahead_of is_first u member)
+  pub predicted_are : refusal.predicted ≡ predicted_outs member.plant s.inputs (ahead_of is_first u member).plain
 
 -- the certificates, or none, that are claimed of the models of a bank
 abbrev pub claims_on : Sample → Bank → Option (Bor (List (Option Cert))) → List (Option Certificate)

@@ -2,20 +2,21 @@
 use Rattle.std.specs.Prelude.{◌≡◌, ℕ, ℤ, Bool, true, false, List, [], ◌∷◌, ◌++◌, length, Option}
 use Rattle.farkas_check.specs.Certificate.{Certificate}
 use Rattle.plant_model.specs.Plant.{Plant, Sample}
-use Rattle.observer_step.specs.Answers.{zonotope_observer, any_justified, answer_with, due_at, allows_at}
+use Rattle.observer_step.specs.Answers.{any_justified, answer_with, due_at, allows_at}
+use Rattle.observer_step.specs.SetsAnswers.{sets_observer}
 use Rattle.model_bank.specs.Answers.{ModelAnswer, SampleAnswer, sample_answer, answers_from, live_after, certificates_at, all_allowed}
 use Rattle.model_bank.specs.Bank.{Bank, BankStands}
 
--- the certificates that are due where this sample is added to the others
+-- the certificates that are due, or those of the first candidates, where this sample is added to the others
 abbrev pub dues : List Plant → List Sample → Sample → List (Option Certificate)
-dues plants samples s = certificates_at zonotope_observer plants (samples ++ s ∷ []) (length samples)
+dues plants samples s = certificates_at sets_observer plants (samples ++ s ∷ []) (length samples)
 
--- what is seen is the answer of the definitions on the samples with this one added, with the certificates that are due
+-- what is seen is the answer of the definitions on the samples with this one added, with these certificates
 abbrev pub RecordsSample : Sample → Bank → SampleAnswer → Type 0
 RecordsSample s bank seen = (plants : List Plant) (samples : List Sample) (lives : List Bool) → BankStands plants samples lives bank
-    → seen ≡ sample_answer zonotope_observer plants lives (dues plants samples s) (samples ++ s ∷ []) (length samples)
+    → seen ≡ sample_answer sets_observer plants lives (dues plants samples s) (samples ++ s ∷ []) (length samples)
 
--- the bank then stands for the samples with this one added, and for the live models for which none was due
+-- the bank then stands for the samples with this one added, and for the live models that have none
 abbrev pub StandsLonger : Sample → Bank → Bank → Type 0
 StandsLonger s old new = (plants : List Plant) (samples : List Sample) (lives : List Bool) → BankStands plants samples lives old
     → BankStands plants (samples ++ s ∷ []) (live_after lives (dues plants samples s)) new
@@ -23,8 +24,8 @@ StandsLonger s old new = (plants : List Plant) (samples : List Sample) (lives : 
 -- every offer is justified, what is seen is the answer with them, and the bank then stands for the samples with this one added
 pub record TakesOffers (s : Sample) (offers : List (Option Certificate)) (plants : List Plant) (samples : List Sample) (lives : List Bool)
     (seen : SampleAnswer) (new : Bank) : Type 0 where
-  pub justified : all_allowed any_justified zonotope_observer plants lives offers (samples ++ s ∷ []) (length samples) ≡ true
-  pub answer : seen ≡ sample_answer zonotope_observer plants lives offers (samples ++ s ∷ []) (length samples)
+  pub justified : all_allowed any_justified sets_observer plants lives offers (samples ++ s ∷ []) (length samples) ≡ true
+  pub answer : seen ≡ sample_answer sets_observer plants lives offers (samples ++ s ∷ []) (length samples)
   pub stands : BankStands plants (samples ++ s ∷ []) (live_after lives offers) new
 
 -- what is told where an offer is not justified: the model, the answers on the live ones below it, its predicted
@@ -51,11 +52,11 @@ pub record RefusesOffer (s : Sample) (offers : List (Option Certificate)) (plant
   pub offers_are : offers ≡ offers_below ++ refusal.offered ∷ offers_above
   pub model_is : refusal.model ≡ length plants_below
   pub as_many_lives : length lives_below ≡ length plants_below
-  pub justified_below : all_allowed any_justified zonotope_observer plants_below lives_below offers_below (samples ++ s ∷ []) (length samples) ≡ true
-  pub not_justified : allows_at any_justified zonotope_observer plant (samples ++ s ∷ []) (length samples) refusal.offered ≡ false
-  pub due_is : refusal.due ≡ due_at zonotope_observer plant (samples ++ s ∷ []) (length samples)
-  pub before_are : refusal.before ≡ answers_from zonotope_observer 0 plants_below lives_below offers_below (samples ++ s ∷ []) (length samples)
-  pub predicted_are : refusal.predicted ≡ (answer_with zonotope_observer plant (samples ++ s ∷ []) (length samples) refusal.offered).predicted
+  pub justified_below : all_allowed any_justified sets_observer plants_below lives_below offers_below (samples ++ s ∷ []) (length samples) ≡ true
+  pub not_justified : allows_at any_justified sets_observer plant (samples ++ s ∷ []) (length samples) refusal.offered ≡ false
+  pub due_is : refusal.due ≡ due_at sets_observer plant (samples ++ s ∷ []) (length samples)
+  pub before_are : refusal.before ≡ answers_from sets_observer 0 plants_below lives_below offers_below (samples ++ s ∷ []) (length samples)
+  pub predicted_are : refusal.predicted ≡ (answer_with sets_observer plant (samples ++ s ∷ []) (length samples) refusal.offered).predicted
 
 -- whatever the bank stands for, it takes the offers
 abbrev pub TakesAnyOffers : Sample → List (Option Certificate) → Bank → SampleAnswer → Bank → Type 0

@@ -1,69 +1,62 @@
 -- What a sample makes of a bank and its members, from what they hold. `u` are the inputs
 -- of the sample before, of which the first sample has none.
 use Rattle.std.specs.Prelude.{ℕ, ◌+◌, ◌==◌, ℤ, Bool, true, false, not, ◌&&◌, ◌||◌, if◌then◌else◌, List, [], ◌∷◌, map}
-use Rattle.std.specs.Prelude.{Option, Some, None, option_map, is_none}
-use Rattle.farkas_check.specs.Certificate.{Certificate, by_out}
-use Rattle.set_rules.specs.Zono.{Zono}
+use Rattle.std.specs.Prelude.{Option, Some, None, is_none}
+use Rattle.farkas_check.specs.Certificate.{Certificate}
 use Rattle.plant_model.specs.Plant.{Plant, Sample}
-use Rattle.observer_step.specs.Predicted.{predicted_outs, hulls, due}
-use Rattle.observer_step.specs.Estimate.{leaves_range, predict, correct}
-use Rattle.observer_step.specs.Answers.{Answer, is_justified, refutes_none}
+use Rattle.observer_step.specs.Predicted.{predicted_outs, hulls}
+use Rattle.observer_step.specs.Offers.{offers_output}
+use Rattle.observer_step.specs.Sets.{Sets, either_leaves, predict_sets, correct_sets, correct_sets_if}
+use Rattle.observer_step.specs.Answers.{Answer}
+use Rattle.observer_step.specs.SetsAnswers.{certificate_of_sets, is_justified_of_sets}
 use Rattle.isolate_core.specs.Verdict.{verdict_of, possible_models}
 use Rattle.model_bank.specs.Answers.{ModelAnswer, answer_if, SampleAnswer}
 use Rattle.model_bank.specs.Bank.{Member, Bank}
 
--- the predicted set: the given one at the first sample, and later that one sample on
-unfoldable pub set_ahead : Bool → List ℤ → Plant → Zono → Zono
-set_ahead is_first u p z = if is_first then z else predict p u z
+-- the predicted sets: the given ones at the first sample, and later those one sample on
+unfoldable pub sets_ahead : Bool → List ℤ → Plant → Sets → Sets
+sets_ahead is_first u p e = if is_first then e else predict_sets p u e
 
 -- the prediction leaves the range; never at the first sample
-unfoldable pub widens : Bool → List ℤ → Plant → Zono → Bool
-widens is_first u p z = if is_first then false else leaves_range p u z
+unfoldable pub widens : Bool → List ℤ → Plant → Sets → Bool
+widens is_first u p e = if is_first then false else either_leaves p u e
 
--- the certificate that is due where z is the predicted set
-abbrev pub certificate_on : Plant → Sample → Zono → Option Certificate
-certificate_on p s z = option_map by_out (due p s z)
-
--- the certificate, or none, is justified where z is the predicted set
-abbrev pub justified_on : Plant → Sample → Zono → Option Certificate → Bool
-justified_on p s z c = is_justified (due p s z) refutes_none c
-
--- the answer where z is the predicted set, with this certificate or with none
-unfoldable pub answer_on : Plant → Sample → Zono → Bool → Option Certificate → Answer
-answer_on p s z is_widened c = record {
-  predicted = predicted_outs p s.inputs z;
+-- the answer where e are the predicted sets, with this certificate or with none
+unfoldable pub answer_on : Plant → Sample → Sets → Bool → Option Certificate → Answer
+answer_on p s e is_widened c = record {
+  predicted = predicted_outs p s.inputs e.plain;
   is_widened = is_widened;
   certificate = c;
-  hulls = if is_none c then hulls p (correct p s z) else [];
+  hulls = if is_none c then hulls p (correct_sets p s e).plain else [];
 }
 
--- the set after the sample where z is the predicted set: it takes the readings where there is no certificate
-unfoldable pub set_on : Plant → Sample → Zono → Option Certificate → Zono
-set_on p s z c = if is_none c then correct p s z else z
+-- the sets after the sample where e are the predicted sets: they take the readings where no output is certified
+unfoldable pub sets_on : Plant → Sample → Sets → Option Certificate → Sets
+sets_on p s e c = correct_sets_if (not (offers_output c)) p s e
 
--- the predicted set of a member
-abbrev pub ahead_of : Bool → List ℤ → Member → Zono
-ahead_of is_first u m = set_ahead is_first u m.plant m.estimate.plain
+-- the predicted sets of a member
+abbrev pub ahead_of : Bool → List ℤ → Member → Sets
+ahead_of is_first u m = sets_ahead is_first u m.plant m.estimate
 
--- the certificate that is due for a member
+-- the certificate that is due for a member, or that of the first candidate
 abbrev pub due_of : Bool → List ℤ → Sample → Member → Option Certificate
-due_of is_first u s m = certificate_on m.plant s (ahead_of is_first u m)
+due_of is_first u s m = certificate_of_sets m.plant s (ahead_of is_first u m)
 
 -- the certificate, or none, is justified for a member
 abbrev pub justified_of : Bool → List ℤ → Sample → Member → Option Certificate → Bool
-justified_of is_first u s m c = justified_on m.plant s (ahead_of is_first u m) c
+justified_of is_first u s m c = is_justified_of_sets m.plant s (ahead_of is_first u m) c
 
 -- the answer on a live member
 abbrev pub answer_of : Bool → List ℤ → Sample → Member → Option Certificate → Answer
-answer_of is_first u s m c = answer_on m.plant s (ahead_of is_first u m) (widens is_first u m.plant m.estimate.plain) c
+answer_of is_first u s m c = answer_on m.plant s (ahead_of is_first u m) (widens is_first u m.plant m.estimate) c
 
 -- what is told of model i where it is live
 abbrev pub told_of : Bool → List ℤ → Sample → ℕ → Member → Option Certificate → Option ModelAnswer
 told_of is_first u s i m c = if m.live then Some (record { index = i; answer = answer_of is_first u s m c }) else None
 
--- a member that was live before the sample, where z is the predicted set: it stays live where there is no certificate
-abbrev pub judged_on : Plant → Sample → Zono → Option Certificate → Member
-judged_on p s z c = record { plant = p; estimate = record { plain = set_on p s z c }; live = is_none c }
+-- a member that was live before the sample, where e are the predicted sets: it stays live where there is no certificate
+abbrev pub judged_on : Plant → Sample → Sets → Option Certificate → Member
+judged_on p s e c = record { plant = p; estimate = sets_on p s e c; live = is_none c }
 
 -- the member after the sample: one that is not live stays as it is
 abbrev pub member_after : Bool → List ℤ → Sample → Member → Option Certificate → Member

@@ -180,7 +180,7 @@ impl Bank {
         self.take(sample, Some(offered), earlier)
     }
 
-    /// Takes a sample by the certificates that are offered, or by the due ones, which no model refuses.
+    /// Takes a sample by the certificates that are offered, or by those that it gives, which no model refuses.
     fn take(
         &mut self,
         sample: &Sample,

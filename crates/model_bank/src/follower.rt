@@ -9,9 +9,9 @@ ghost use Rattle.observer_step.specs.Predicted.{hulls as hulls_of};
 ghost use Rattle.observer_step.specs.Offers.{outs_in};
 ghost use Rattle.observer_step.specs.Seen.{was_widened, certificate_in, is_printable_interval};
 ghost use Rattle.model_bank.specs.Bank.{begun};
-ghost use Rattle.model_bank.specs.Claims.{SetTakes, SetRefuses, ModelTakes, MemberTakes, MemberRefuses};
+ghost use Rattle.model_bank.specs.Claims.{SetsTake, SetsRefuse, ModelTakes, MemberTakes, MemberRefuses};
 ghost use Rattle.model_bank.specs.Seen.{model_seen};
-ghost use Rattle.model_bank.specs.Steps.{set_ahead, widens};
+ghost use Rattle.model_bank.specs.Steps.{sets_ahead, widens};
 
 use crate::ModelRec;
 use crate::claim::Claim;
@@ -99,8 +99,8 @@ impl<const N: usize> Follower<N> {
     }
 }
 
-/// Predicts the set of a sample from that of the last, whose inputs `last` are. The first has none, and its set is there.
-#[tactic(auto, unfolding(crate::specs::Steps::set_ahead, crate::specs::Steps::widens))]
+/// Predicts the sets of a sample from those of the last, whose inputs `last` are. The first has none, and its sets are there.
+#[tactic(auto, unfolding(crate::specs::Steps::sets_ahead, crate::specs::Steps::widens))]
 fn go_ahead<const N: usize>(
     plant: &Plant<N>,
     estimate: &mut Est<N>,
@@ -109,8 +109,8 @@ fn go_ahead<const N: usize>(
 ) -> Kept
     requires last_inputs { is_first ≡ false → length last.now.items ≡ plant.now.inputs }
     requires last_small { AllWithinLimit input_limit last.now.items }
-    ensures set { estimate.new.plain ≡ set_ahead is_first last.now.items plant.now estimate.old.plain }
-    ensures kept { was_widened result ≡ widens is_first last.now.items plant.now estimate.old.plain }
+    ensures sets { estimate.new ≡ sets_ahead is_first last.now.items plant.now estimate.old }
+    ensures kept { was_widened result ≡ widens is_first last.now.items plant.now estimate.old }
 {
     if is_first {
         Kept::Imaged
@@ -119,7 +119,7 @@ fn go_ahead<const N: usize>(
     }
 }
 
-/// What a sample makes of a model whose estimate is the predicted set.
+/// What a sample makes of a model whose estimate has the predicted sets.
 fn judge<const N: usize>(
     plant: &Plant<N>,
     estimate: &mut Est<N>,
@@ -132,8 +132,8 @@ fn judge<const N: usize>(
     requires inputs { length sample.now.u.items ≡ plant.now.inputs }
     requires outputs { length sample.now.y.items ≡ plant.now.outputs }
     ensures taken { IfOk result (λ model. ModelTakes plant.now (sample_of sample.now)
-        estimate.old.plain estimate.new.plain (was_widened kept) claim index (model_seen model)) }
-    ensures refused { IfErr result (SetRefuses plant.now (sample_of sample.now) estimate.old.plain claim) }
+        estimate.old estimate.new (was_widened kept) claim index (model_seen model)) }
+    ensures refused { IfErr result (SetsRefuse plant.now (sample_of sample.now) estimate.old claim) }
     ensures printable { IfErr result (λ e. list_all is_printable_interval e.outs.items ≡ true) }
 {
     match judge_by(plant, estimate, sample, room, claim) {
@@ -171,8 +171,8 @@ fn judge_by<const N: usize>(
     requires inputs { length sample.now.u.items ≡ plant.now.inputs }
     requires outputs { length sample.now.y.items ≡ plant.now.outputs }
     ensures taken { IfOk result
-        (SetTakes plant.now (sample_of sample.now) estimate.old.plain estimate.new.plain claim) }
-    ensures refused { IfErr result (SetRefuses plant.now (sample_of sample.now) estimate.old.plain claim) }
+        (SetsTake plant.now (sample_of sample.now) estimate.old estimate.new claim) }
+    ensures refused { IfErr result (SetsRefuse plant.now (sample_of sample.now) estimate.old claim) }
     ensures printable { list_all is_printable_interval (outs_in result) ≡ true }
 {
     match claim {

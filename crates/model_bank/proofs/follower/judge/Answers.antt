@@ -1,7 +1,7 @@
 use Rattle.std.proofs.Common.{◌≡◌, [], is_none, if◌then◌else◌, sym, ap, ◌∙◌}
 use Rattle.plant_model.specs.Seen.{sample_of}
 use Rattle.observer_step.specs.Predicted.{hulls}
-use Rattle.observer_step.specs.Estimate.{correct}
+use Rattle.observer_step.specs.Sets.{correct_sets}
 use Rattle.observer_step.specs.Seen.{was_widened}
 use Rattle.model_bank.specs.Claims.{claimed_on}
 use Rattle.model_bank.proofs.Judged.{hulls-judged, no_hulls-judged, answer-judged, model_answer}
@@ -12,19 +12,19 @@ pub returns-after-fits-clause-taken : goal.returns-after-fits-clause-taken
 returns-after-fits-clause-taken g c =
     let p = c.args.plant.now in
     let s = sample_of c.args.sample.now in
-    let z = c.args.estimate.now.plain in
-    let after = c.judge_by.new.estimate.plain in
+    let z = c.args.estimate.now in
+    let after = c.judge_by.new.estimate in
     let certificate = claimed_on p s z c.args.claim in
     let taken = c.in-Ok.ensures.taken in
     let fits = c.fits.ensures ∙ ap is_none taken.certificate_is in
-    let hs : c.if-fits.hulls.items ≡ (if is_none certificate then hulls p (correct p s z) else []) =
+    let hs : c.if-fits.hulls.items ≡ (if is_none certificate then hulls p (correct_sets p s z).plain else []) =
     elim c.if-fits.branch [
-      | then-fits w ↦ hulls-judged p s z after certificate taken.set_is c.if-fits.hulls.items (sym fits ∙ w.if-fits.true) (ap (λ v. v.items) w.hulls-is ∙ w.hulls-hulls.ensures.value)
-      | else-fits w ↦ no_hulls-judged p s z after certificate taken.set_is c.if-fits.hulls.items (sym fits ∙ w.if-fits.false) (ap (λ v. v.items) w.hulls-is ∙ w.new-hulls.ensures)
+      | then-fits w ↦ hulls-judged p s z after certificate taken.sets_are c.if-fits.hulls.items (sym fits ∙ w.if-fits.true) (ap (λ v. v.items) w.hulls-is ∙ w.hulls-hulls.ensures.value)
+      | else-fits w ↦ no_hulls-judged p s z after certificate taken.sets_are c.if-fits.hulls.items (sym fits ∙ w.if-fits.false) (ap (λ v. v.items) w.hulls-is ∙ w.new-hulls.ensures)
     ] in
     record {
       seen_is = ap (λ o. model_answer c.args.index c.in-Ok.field-0.outs.items (was_widened c.args.kept) o c.if-fits.hulls.items) taken.certificate_is
-          ∙ answer-judged p s z after certificate taken.set_is c.args.index (was_widened c.args.kept) c.in-Ok.field-0.outs.items c.if-fits.hulls.items taken.outs_are hs;
+          ∙ answer-judged p s z after certificate taken.sets_are c.args.index (was_widened c.args.kept) c.in-Ok.field-0.outs.items c.if-fits.hulls.items taken.outs_are hs;
       justified = taken.justified;
-      set_is = taken.set_is;
+      sets_are = taken.sets_are;
     }

@@ -2,7 +2,7 @@ use Rattle.std.proofs.Common.{ap, ◌∙◌, sym}
 use Rattle.plant_model.specs.Seen.{sample_of}
 use Rattle.observer_step.specs.Seen.{was_widened}
 use Rattle.model_bank.specs.Seen.{model_seen}
-use Rattle.model_bank.specs.Steps.{set_ahead, widens}
+use Rattle.model_bank.specs.Steps.{sets_ahead, widens}
 use Rattle.model_bank.specs.Claims.{claimed_on}
 use Rattle.model_bank.proofs.Judged.{justified-taken, answer-taken, member-taken, certificate-in}
 use Rattle.model_bank.proofs.follower.Follower.take.Goals as goal
@@ -13,18 +13,18 @@ returns-in-Ok-clause-taken g c =
     let s = sample_of c.args.sample.now in
     let m = c.args.self.now in
     let p = c.self.inside.plant in
-    let z = c.go_ahead-kept.new.estimate.plain in
+    let z = c.go_ahead-kept.new.estimate in
     let w = was_widened c.go_ahead-kept.result in
     let seen = c.self.view_is in
     let same = ap (λ m. m.plant) seen in
-    let ahead = c.go_ahead-kept.ensures.set ∙ ap (λ m. set_ahead c.args.is_first u m.plant m.estimate.plain) seen in
-    let widened = c.go_ahead-kept.ensures.kept ∙ ap (λ m. widens c.args.is_first u m.plant m.estimate.plain) seen in
+    let ahead = c.go_ahead-kept.ensures.sets ∙ ap (λ m. sets_ahead c.args.is_first u m.plant m.estimate) seen in
+    let widened = c.go_ahead-kept.ensures.kept ∙ ap (λ m. widens c.args.is_first u m.plant m.estimate) seen in
     let live = sym (ap (λ m. m.live) seen) ∙ c.if-not-self.false in
     let taken = c.in-Ok.ensures.taken in
     let model = model_seen c.in-Ok.model in
     record {
       justified = justified-taken c.args.is_first u s m live p same z ahead c.args.claim taken.justified;
       told_is = answer-taken c.args.is_first u s m live p same z ahead c.args.claim c.args.index w model widened taken.seen_is;
-      new_is = member-taken c.args.is_first u s m live p same z ahead c.args.claim c.judge.new.estimate.plain c.fits-self-inside.result taken.set_is
+      new_is = member-taken c.args.is_first u s m live p same z ahead c.args.claim c.judge.new.estimate c.fits-self-inside.result taken.sets_are
           (c.fits-self-inside.ensures ∙ certificate-in p s z c.args.index w (claimed_on p s z c.args.claim) model taken.seen_is);
     }
