@@ -6,11 +6,15 @@ use Rattle.std.proofs.lemmas.List.{length-map, length-replicate}
 use Rattle.farkas_check.specs.Certificate.{Certificate, by_out, by_rows}
 use Rattle.farkas_check.specs.Multipliers.{are_multipliers}
 use Rattle.plant_model.specs.Plant.{Plant, Sample}
-use Rattle.observer_step.specs.Answers.{Observer, zonotope_observer, due_at, certificate_at, is_justified, is_chosen, any_justified, as_run_chooses, allows_at}
+use Rattle.observer_step.specs.Answers.{Observer, due_at, certificate_at, is_justified, is_chosen, any_justified, as_run_chooses, allows_at}
+use Rattle.observer_step.specs.Sets.{corrected_sets}
+use Rattle.observer_step.specs.SetsAnswers.{sets_observer}
+use Rattle.observer_step.proofs.Later.{candidate-refutes}
+use Rattle.model_bank.proofs.Allowed.{dues-allowed}
 use Rattle.model_bank.specs.Answers.{all_allowed, certificates_at, live_after}
 use Rattle.report_rules.specs.Claims.{CandidatesRefute}
 use Rattle.report_rules.specs.Report.{lives_before, due_choice}
-use Rattle.report_rules.specs.Laws.{RunIsAccepted, DueIsChosen, ZonotopeRefutes}
+use Rattle.report_rules.specs.Laws.{RunIsAccepted, DueIsChosen, EstimateRefutes}
 
 -- ---- what `run` chooses is justified
 
@@ -66,34 +70,19 @@ length-lives_before c m (suc n) each =
     let here = each n (omega arith) in
     length-lives (lives_before c m n) (c n) (before ∙ sym here) ∙ here
 
-due-chosen_at : (due : Option ℕ) (refutes : List ℤ → Bool) → is_chosen due refutes None (option_map by_out due) ≡ true
-due-chosen_at (Some o) refutes = grind (arith, nat_tests)
-due-chosen_at None refutes = refl
-
 dues-chosen : (ps : List Plant) (lives : List Bool) (samples : List Sample) (k : ℕ) → length lives ≡ length ps
-    → all_allowed as_run_chooses zonotope_observer ps lives (certificates_at zonotope_observer ps samples k) samples k ≡ true
-dues-chosen [] [] samples k e = refl
-dues-chosen [] (live ∷ lives) samples k e = absurd cc
-dues-chosen (p ∷ ps) [] samples k e = absurd cc
-dues-chosen (p ∷ ps) (live ∷ lives) samples k e =
-    let due = due_at zonotope_observer p samples k in
-    ap (λ b. (not live || b) && all_allowed as_run_chooses zonotope_observer ps lives (certificates_at zonotope_observer ps samples k) samples k) (due-chosen_at due (zonotope_observer.refutes p samples k))
-    ∙ ap (λ b. b && all_allowed as_run_chooses zonotope_observer ps lives (certificates_at zonotope_observer ps samples k) samples k) (either live)
-    ∙ dues-chosen ps lives samples k cc
-  where
-    either : (b : Bool) → (not b || true) ≡ true
-    either true = refl
-    either false = refl
+    → all_allowed as_run_chooses sets_observer ps lives (certificates_at sets_observer ps samples k) samples k ≡ true
+dues-chosen ps lives samples k e = dues-allowed as_run_chooses ps lives samples k e
 
 -- the report with the certificates that are due is one that `run` may put
 pub due-chosen : DueIsChosen
 due-chosen w = record {
-  choice = due_choice zonotope_observer w.plants w.samples;
-  allowed = λ k l. dues-chosen w.plants (lives_before (due_choice zonotope_observer w.plants w.samples) (length w.plants) k) w.samples k
-      (length-lives_before (due_choice zonotope_observer w.plants w.samples) (length w.plants) k (λ j m. length-map w.plants (λ p. certificate_at zonotope_observer p w.samples j)));
+  choice = due_choice sets_observer w.plants w.samples;
+  allowed = λ k l. dues-chosen w.plants (lives_before (due_choice sets_observer w.plants w.samples) (length w.plants) k) w.samples k
+      (length-lives_before (due_choice sets_observer w.plants w.samples) (length w.plants) k (λ j m. length-map w.plants (λ p. certificate_at sets_observer p w.samples j)));
   is = refl;
 }
 
--- the zonotope keeps no rows, so it has no candidates
-pub zonotope-refutes : ZonotopeRefutes
-zonotope-refutes p samples k ls e = absurd cc
+-- a candidate is a list of multipliers that refutes the rows
+pub estimate-refutes : EstimateRefutes
+estimate-refutes p samples k ls e = candidate-refutes (corrected_sets p samples k).constrained ls e

@@ -8,14 +8,14 @@ use Rattle.farkas_check.specs.Multipliers.{are_multipliers}
 use Rattle.plant_model.specs.Plant.{Plant, Sample, Consistent}
 use Rattle.observer_step.specs.Predicted.{hulls}
 use Rattle.observer_step.specs.Answers.{Answer, Observer, answer_with, due_at, is_justified, any_justified, allows_at}
-use Rattle.observer_step.proofs.ExclusionHolds.{hull-contains, due-has_none}
+use Rattle.observer_step.proofs.SetsHold.{sets-hull, missed-has_none, refuted-has_none}
 use Rattle.model_bank.specs.Answers.{answer_if, answers_from, sample_answer, all_allowed}
 use Rattle.report_text.specs.Line.{Line, model, pred, hull, status, possible, verdict}
 use Rattle.isolate_core.specs.Verdict.{possible_models}
 use Rattle.report_rules.specs.Lines.{head_lines, pred_lines, hull_lines, outcome_lines, model_lines, sample_lines, last_lines}
 use Rattle.report_rules.specs.Claims.{HullsHold, ExclusionsHold, HoldsEvery, IsSoundBefore, plant_at, no_plant}
 use Rattle.report_rules.specs.Report.{Watch, Choice, lives_before, samples_lines, report, IsReport}
-use Rattle.report_rules.specs.Laws.{HullsAreSound, ExclusionsAreSound, ZonotopeIsSound}
+use Rattle.report_rules.specs.Laws.{HullsAreSound, ExclusionsAreSound, EstimateIsSound}
 
 first-true : (a b : Bool) → a && b ≡ true → a ≡ true
 first-true true b h = refl
@@ -147,10 +147,10 @@ hulls-sound o w lines sound r = (accepted-holds o w lines sound r).hulls
 pub exclusions-sound : ExclusionsAreSound
 exclusions-sound o w lines sound r = (accepted-holds o w lines sound r).exclusions
 
--- the zonotope that is predicted and corrected is sound at every sample
-pub zonotope-sound : ZonotopeIsSound
-zonotope-sound samples n = record {
-  hulls_hold = λ p k l x m t obeys. hull-contains p samples k t obeys x m;
-  due_has_none = λ p k l output e. due-has_none p samples k output e;
-  refuted_has_none = λ p k l ls e. absurd cc;
+-- an estimate is sound at every sample
+pub estimate-sound : EstimateIsSound
+estimate-sound samples n = record {
+  hulls_hold = λ p k l x m t obeys. sets-hull p samples k t obeys x m;
+  due_has_none = λ p k l output e. missed-has_none p samples k output e;
+  refuted_has_none = λ p k l ls e. refuted-has_none p samples k ls e;
 }

@@ -1,7 +1,8 @@
 -- The laws of reports: what their lines claim holds, and what `run` puts is accepted.
 use Rattle.std.specs.Prelude.{ℕ, List, length, None}
 use Rattle.plant_model.specs.Plant.{Sample}
-use Rattle.observer_step.specs.Answers.{Observer, any_justified, as_run_chooses, zonotope_observer}
+use Rattle.observer_step.specs.Answers.{Observer, any_justified, as_run_chooses}
+use Rattle.observer_step.specs.SetsAnswers.{sets_observer}
 use Rattle.report_text.specs.Line.{Line}
 use Rattle.report_rules.specs.Claims.{HullsHold, ExclusionsHold, MissesTold, IsSoundBefore, CandidatesRefute, plant_at}
 use Rattle.report_rules.specs.Report.{Watch, IsReport, report, due_choice}
@@ -20,19 +21,19 @@ ExclusionsAreSound = (o : Observer) (w : Watch) (lines : List Line) → IsSoundB
 abbrev pub MissesAreTold : Type 0
 MissesAreTold = (o : Observer) (w : Watch) (lines : List Line) → IsReport any_justified o w lines → MissesTold w.samples 0 None lines
 
--- the zonotope that is predicted and corrected is sound at every sample
-abbrev pub ZonotopeIsSound : Type 0
-ZonotopeIsSound = (samples : List Sample) (n : ℕ) → IsSoundBefore zonotope_observer samples n
+-- an estimate, by a plain set and one with rows, is sound at every sample
+abbrev pub EstimateIsSound : Type 0
+EstimateIsSound = (samples : List Sample) (n : ℕ) → IsSoundBefore sets_observer samples n
 
--- its candidates refute, since it has none
-abbrev pub ZonotopeRefutes : Type 0
-ZonotopeRefutes = CandidatesRefute zonotope_observer
+-- its candidates refute
+abbrev pub EstimateRefutes : Type 0
+EstimateRefutes = CandidatesRefute sets_observer
 
 -- what `run` may put is accepted
 abbrev pub RunIsAccepted : Type 0
 RunIsAccepted = (o : Observer) (w : Watch) (lines : List Line) → CandidatesRefute o
     → IsReport as_run_chooses o w lines → IsReport any_justified o w lines
 
--- the report with the certificates that are due is one that `run` may put
+-- the report with the certificates that are due, or of the first candidates, is one that `run` may put
 abbrev pub DueIsChosen : Type 0
-DueIsChosen = (w : Watch) → IsReport as_run_chooses zonotope_observer w (report zonotope_observer w (due_choice zonotope_observer w.plants w.samples))
+DueIsChosen = (w : Watch) → IsReport as_run_chooses sets_observer w (report sets_observer w (due_choice sets_observer w.plants w.samples))

@@ -3,7 +3,8 @@ use Rattle.std.specs.Prelude.{◌≡◌, ◌≢◌, ◌⊎◌, ℕ, ◌+◌, ◌
 use Rattle.std.specs.List.{All, list_any, list_all}
 use Rattle.farkas_check.specs.Certificate.{Certificate}
 use Rattle.plant_model.specs.Plant.{Plant, Sample}
-use Rattle.observer_step.specs.Answers.{any_justified, zonotope_observer}
+use Rattle.observer_step.specs.Answers.{any_justified}
+use Rattle.observer_step.specs.SetsAnswers.{sets_observer}
 use Rattle.report_text.specs.Line.{Line, exclude, lines_text}
 use Rattle.report_text.specs.Laws.{is_feed}
 use Rattle.report_text.specs.Ranges.{IsLine}
@@ -21,11 +22,11 @@ watch names ps samples is_whole = record { names = names; plants = ps; samples =
 
 -- the lines of the samples taken, from the title on
 abbrev pub lines_so_far : List (List ℕ) → List Plant → List Sample → Choice → List Line
-lines_so_far names ps taken c = head_lines names ++ samples_lines zonotope_observer ps taken c (length taken)
+lines_so_far names ps taken c = head_lines names ++ samples_lines sets_observer ps taken c (length taken)
 
 -- the bytes begin with the lines of the samples taken, by a choice that is justified, and go on with what is left
 pub record Replayed (names : List (List ℕ)) (ps : List Plant) (taken : List Sample) (c : Choice) (bytes left : List ℕ) : Type 0 where
-  pub allowed : AllowedBefore any_justified zonotope_observer (watch names ps taken true) c (length taken)
+  pub allowed : AllowedBefore any_justified sets_observer (watch names ps taken true) c (length taken)
   pub text : bytes ≡ lines_text (lines_so_far names ps taken c) ++ left
 
 -- the choice with these certificates, or none, at sample k
@@ -82,13 +83,13 @@ TakesEnough n ts rest = (n ≤ length ts) ⊎ HasNoLine rest
 
 -- the bytes are a whole report; where a row was refused, they begin with all its lines
 abbrev pub SatisfiesBy : Bool → Watch → List ℕ → Type 0
-SatisfiesBy true w bytes = IsReportText any_justified zonotope_observer w bytes
-SatisfiesBy false w bytes = Covers any_justified zonotope_observer w bytes
+SatisfiesBy true w bytes = IsReportText any_justified sets_observer w bytes
+SatisfiesBy false w bytes = Covers any_justified sets_observer w bytes
 
 abbrev pub Satisfies : Watch → List ℕ → Type 0
 Satisfies w bytes = SatisfiesBy w.is_whole w bytes
 
 -- line n, from 1, is the first that does not follow those before it, and the bytes are not what they have to be
 pub record DepartsAt (w : Watch) (n : ℕ) (bytes : List ℕ) : Type 0 where
-  pub first_bad : IsFirstBad any_justified zonotope_observer w n bytes
+  pub first_bad : IsFirstBad any_justified sets_observer w n bytes
   pub not_satisfied : ¬ Satisfies w bytes

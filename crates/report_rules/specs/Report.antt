@@ -38,7 +38,7 @@ abbrev pub AllowedBefore : Rule → Observer → Watch → Choice → ℕ → Ty
 AllowedBefore rule o w c n =
     (k : ℕ) → k < n → all_allowed rule o w.plants (lives_before c (length w.plants) k) (c k) w.samples k ≡ true
 
--- the certificates that are due
+-- the certificates that are due, or of the first candidates
 abbrev pub due_choice : Observer → List Plant → List Sample → Choice
 due_choice o ps samples k = certificates_at o ps samples k
 

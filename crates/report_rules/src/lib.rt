@@ -6,8 +6,8 @@ ghost use Rattle.report_rules.specs.Laws.{
   HullsAreSound,
   ExclusionsAreSound,
   MissesAreTold,
-  ZonotopeIsSound,
-  ZonotopeRefutes,
+  EstimateIsSound,
+  EstimateRefutes,
   RunIsAccepted,
   DueIsChosen,
 };
@@ -18,8 +18,8 @@ pub fn laws()
     ensures hulls { HullsAreSound }
     ensures exclusions { ExclusionsAreSound }
     ensures misses { MissesAreTold }
-    ensures zonotope { ZonotopeIsSound }
-    ensures candidates { ZonotopeRefutes }
+    ensures estimate { EstimateIsSound }
+    ensures candidates { EstimateRefutes }
     ensures run { RunIsAccepted }
     ensures due { DueIsChosen }
 {}
