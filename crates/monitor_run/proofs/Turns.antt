@@ -8,7 +8,7 @@ use Rattle.telem_csv.specs.Columns.{Columns}
 use Rattle.telem_csv.specs.Cutter.{Cutter, rows_owed}
 use Rattle.telem_csv.specs.Rows.{Rows, no_rows, refused_rows}
 use Rattle.telem_csv.specs.declared.fault.TelemFault.{TelemFault}
-use Rattle.observer_step.specs.Answers.{zonotope_observer}
+use Rattle.observer_step.specs.SetsAnswers.{sets_observer}
 use Rattle.model_bank.specs.Answers.{SampleAnswer, sample_answer}
 use Rattle.model_bank.specs.Bank.{Bank, BankStands}
 use Rattle.report_text.specs.Line.{Line, lines_text, put_text, end}
@@ -56,8 +56,8 @@ lines-longer ps samples n zero = let e : n + 0 ≡ n = omega arith in ([], rw e 
 lines-longer ps samples n (suc j) =
     let before = lines-longer ps samples n j in
     let e : n + suc j ≡ suc (n + j) = omega arith in
-    let c = due_choice zonotope_observer ps samples in
-    let last = sample_lines (sample_answer zonotope_observer ps (lives_before c (length ps) (n + j)) (c (n + j)) samples (n + j)) in
+    let c = due_choice sets_observer ps samples in
+    let last = sample_lines (sample_answer sets_observer ps (lives_before c (length ps) (n + j)) (c (n + j)) samples (n + j)) in
     (before.0 ++ last, ap (due_lines ps samples) e ∙ ap (λ ls. ls ++ last) before.1 ∙ append_assoc (due_lines ps samples n) before.0 last)
 
 -- the lines of the samples taken are a front of those of all rows
@@ -111,15 +111,15 @@ module _ {head : Columns} {bank0 bank : Bank} {c0 c : Cutter} {left0 left : List
       more-lines ps stands =
           let n : length (taken ++ s ∷ []) ≡ length taken + 1 = length-append taken (s ∷ []) in
           ap (due_lines ps (taken ++ s ∷ [])) n ∙ due-lines-more ps taken s
-          ∙ ap (λ a. due_lines ps taken (length taken) ++ sample_lines a) (sym (answer-is ps taken (lives_before (due_choice zonotope_observer ps taken) (length ps) (length taken)) (m.stands ps stands)))
+          ∙ ap (λ a. due_lines ps taken (length taken) ++ sample_lines a) (sym (answer-is ps taken (lives_before (due_choice sets_observer ps taken) (length ps) (length taken)) (m.stands ps stands)))
 
       -- one more sample was taken and its lines were put
       pub one-more : bank'.count ≡ bank.count + 1 → Gains (lines_text (sample_lines answer)) held held' → Monitored head bank0 bank' c0 c' left0 left' rest0 rest' held0 held' (taken ++ s ∷ [])
       one-more count put = record {
         stands = λ ps stands.
-            let lives = lives_before (due_choice zonotope_observer ps taken) (length ps) (length taken) in
+            let lives = lives_before (due_choice sets_observer ps taken) (length ps) (length taken) in
             subst (λ lives. BankStands ps (taken ++ s ∷ []) lives bank')
-            (sym (ap (lives_before (due_choice zonotope_observer ps (taken ++ s ∷ [])) (length ps)) (length-append taken (s ∷ [])) ∙ due-lives-more ps taken s))
+            (sym (ap (lives_before (due_choice sets_observer ps (taken ++ s ∷ [])) (length ps)) (length-append taken (s ∷ [])) ∙ due-lives-more ps taken s))
             (stands' ps taken lives (m.stands ps stands));
         counts = count ∙ ap (λ n. n + 1) m.counts ∙ sym (length-append taken (s ∷ []));
         puts = λ ps stands. appends_more held0.held held.held held'.held _ _ _ (m.puts ps stands) put (ap lines_text (more-lines ps stands) ∙ lines-append (due_lines ps taken (length taken)) (sample_lines answer));

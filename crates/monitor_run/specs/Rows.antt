@@ -3,7 +3,7 @@ use Rattle.std.specs.Prelude.{◌≡◌, ℕ, List, ◌++◌, length, Some, None
 use Rattle.std.specs.Io.KnownBytes.{IsAtEnd}
 use Rattle.plant_model.specs.Plant.{Plant, Sample}
 use Rattle.telem_csv.specs.Rows.{Rows}
-use Rattle.observer_step.specs.Answers.{zonotope_observer}
+use Rattle.observer_step.specs.SetsAnswers.{sets_observer}
 use Rattle.outside_io.specs.Causes.{Rose}
 use Rattle.outside_io.specs.Shelf.{ShelfState}
 use Rattle.outside_io.specs.Sink.{SinkState, Gains, GainsFront}
@@ -22,18 +22,18 @@ use Rattle.input_files.specs.declared.stream.StreamFault.TheVariants as stream
 use Rattle.input_files.specs.declared.model.ModelEnding.{ModelEnding}
 use Rattle.input_files.specs.declared.model.ModelEnding.TheVariants as models
 
--- the lines of the first samples, with the certificates that are due
+-- the lines of the first samples, with the certificates that are due, or of the first candidates
 abbrev pub due_lines : List Plant → List Sample → ℕ → List Line
-due_lines ps samples n = samples_lines zonotope_observer ps samples (due_choice zonotope_observer ps samples) n
+due_lines ps samples n = samples_lines sets_observer ps samples (due_choice sets_observer ps samples) n
 
 -- the lines of a report behind its head
 abbrev pub rows_lines : List Plant → Rows → List Line
 rows_lines ps rows = due_lines ps rows.samples (length rows.samples) ++ last_lines (length rows.samples) (is_none rows.refusal)
 
--- a bank of these plants stands for the samples, and for the models for which nothing was due
+-- a bank of these plants stands for the samples, and for the models that had no certificate
 abbrev pub StandsDue : List Plant → List Sample → Bank → Type 0
 StandsDue ps samples bank =
-    BankStands ps samples (lives_before (due_choice zonotope_observer ps samples) (length ps) (length samples)) bank
+    BankStands ps samples (lives_before (due_choice sets_observer ps samples) (length ps) (length samples)) bank
 
 -- the samples taken, and then those of the rows to come
 abbrev pub behind : List Sample → Rows → Rows
