@@ -26,8 +26,8 @@ module _ (samples : List Sample) (k : ℕ) where
   length-models i (p ∷ ps) [] cs = refl
   length-models i (p ∷ ps) (live ∷ lives) [] = refl
   length-models i (p ∷ ps) (true ∷ lives) (c ∷ cs) =
-      length-append (model_lines (record { index = i; answer = answer_at samples k p c })) (flat_map model_lines (answers_from zonotope_observer (i + 1) ps lives cs samples k))
-      ∙ ap (λ n. n + length (flat_map model_lines (answers_from zonotope_observer (i + 1) ps lives cs samples k))) (length-model samples k i p c)
+      length-append (model_lines (record { index = i; answer = answer_at zonotope_observer samples k p c })) (flat_map model_lines (answers_from zonotope_observer (i + 1) ps lives cs samples k))
+      ∙ ap (λ n. n + length (flat_map model_lines (answers_from zonotope_observer (i + 1) ps lives cs samples k))) (length-model zonotope_observer samples k i p c)
       ∙ ap (λ n. count_of p c + n) (length-models (i + 1) ps lives cs)
   length-models i (p ∷ ps) (false ∷ lives) (c ∷ cs) = length-models (i + 1) ps lives cs ∙ omega arith
 

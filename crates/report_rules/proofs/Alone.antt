@@ -1,15 +1,13 @@
--- The zonotope keeps no rows, so each justified report is the one with the certificates that are due.
-use Rattle.std.proofs.Common.{◌≡◌, ℕ, zero, suc, ◌+◌, ◌<◌, ◌≤◌, ◌==◌, Bool, true, false, not, ◌||◌, ◌&&◌, List, [], ◌∷◌, ◌++◌, length, take, Option, Some, None, is_none, option_map, refl, sym, ap, ◌∙◌, arith, subst, length-append}
+-- The zonotope keeps no rows, so the lines of the samples are those with the certificates that are due.
+use Rattle.std.proofs.Common.{◌≡◌, ℕ, zero, suc, ◌+◌, ◌<◌, ◌==◌, Bool, true, false, not, ◌||◌, ◌&&◌, List, [], ◌∷◌, ◌++◌, length, Option, Some, None, is_none, option_map, refl, ap, ◌∙◌, arith}
 use Rattle.std.proofs.lemmas.Bool.Decides.{nat_tests}
 use Rattle.farkas_check.specs.Certificate.{Certificate, by_out, by_rows}
 use Rattle.isolate_core.specs.Verdict.{verdict_of, possible_models}
 use Rattle.plant_model.specs.Plant.{Plant, Sample}
 use Rattle.observer_step.specs.Answers.{zonotope_observer, certificate_at, due_at, refutes_none, is_justified, any_justified, allows_at, answer_with}
 use Rattle.model_bank.specs.Answers.{ModelAnswer, SampleAnswer, answer_if, answers_from, sample_answer, live_after, certificates_at, all_allowed}
-use Rattle.report_text.specs.Line.{Line, lines_text}
-use Rattle.report_rules.specs.Lines.{head_lines, sample_lines, last_lines}
-use Rattle.report_rules.specs.Report.{Watch, Choice, lives_before, samples_lines, report, due_choice, AllowedBefore, IsReport}
-use Rattle.report_rules.proofs.Chosen.{run-accepted, due-chosen, zonotope-refutes}
+use Rattle.report_rules.specs.Lines.{sample_lines}
+use Rattle.report_rules.specs.Report.{Choice, lives_before, samples_lines, due_choice}
 
 -- ---- one model
 
@@ -109,45 +107,3 @@ module _ (ps : List Plant) (samples : List Sample) (c : Choice) where
       ∙ ap (λ a. samples_lines zonotope_observer ps samples (due_choice zonotope_observer ps samples) n ++ sample_lines a) (sample_answer-due samples n ps lives (c n) (allowed n (omega arith)))
       ∙ ap (λ lives. samples_lines zonotope_observer ps samples (due_choice zonotope_observer ps samples) n
       ++ sample_lines (sample_answer zonotope_observer ps lives (certificates_at zonotope_observer ps samples n) samples n)) (lives_before-due n before)
-
--- ---- the one report
-
--- the report with the certificates that are due
-abbrev pub due_report : Watch → List Line
-due_report w = report zonotope_observer w (due_choice zonotope_observer w.plants w.samples)
-
--- each justified choice gives it
-pub report-due : (w : Watch) (c : Choice) → AllowedBefore any_justified zonotope_observer w c (length w.samples) → report zonotope_observer w c ≡ due_report w
-report-due w c allowed =
-    ap (λ ls. head_lines w.names ++ ls ++ last_lines (length w.samples) w.is_whole) (samples_lines-due w.plants w.samples c (length w.samples) allowed)
-
--- each justified report is it
-pub one-report : (w : Watch) (lines : List Line) → IsReport any_justified zonotope_observer w lines → lines ≡ due_report w
-one-report w lines r = r.is ∙ report-due w r.choice r.allowed
-
--- and it is justified
-pub due-justified : (w : Watch) (lines : List Line) → due_report w ≡ lines → IsReport any_justified zonotope_observer w lines
-due-justified w lines e = subst (IsReport any_justified zonotope_observer w) e (run-accepted zonotope_observer w (due_report w) zonotope-refutes (due-chosen w))
-
--- ---- what follows for two choices
-
--- lines whose texts go on alike are alike
-abbrev pub AllAgree : List Line → List Line → Type 0
-AllAgree S S' = (n : ℕ) (r r' : List ℕ) → n ≤ length S → n ≤ length S' → lines_text (take n S) ++ r ≡ lines_text (take n S') ++ r' → take n S ≡ take n S'
-
--- two justified reports agree as far as their texts do
-pub reports-agree : (w : Watch) (c c' : Choice) → AllowedBefore any_justified zonotope_observer w c (length w.samples)
-    → AllowedBefore any_justified zonotope_observer w c' (length w.samples)
-    → AllAgree (report zonotope_observer w c) (report zonotope_observer w c')
-reports-agree w c c' allowed allowed' n r r' l l' e = ap (take n) (report-due w c allowed ∙ sym (report-due w c' allowed'))
-
-nothing-behind : (ls stuff : List Line) → ls ≡ ls ++ stuff → stuff ≡ []
-nothing-behind ls [] e = refl
-nothing-behind ls (l ∷ stuff) e = absurd (omega (arith, ap length e, length-append ls (l ∷ stuff)))
-
--- no justified report goes on where another ends
-pub reports-end : (w : Watch) (c c' : Choice) → AllowedBefore any_justified zonotope_observer w c (length w.samples)
-    → AllowedBefore any_justified zonotope_observer w c' (length w.samples)
-    → (stuff : List Line) → report zonotope_observer w c' ≡ report zonotope_observer w c ++ stuff → stuff ≡ []
-reports-end w c c' allowed allowed' stuff e =
-    nothing-behind (report zonotope_observer w c) stuff (report-due w c allowed ∙ sym (report-due w c' allowed') ∙ e)

@@ -2,10 +2,13 @@ pub mod Hulls
 pub mod Misses
 pub mod Chosen
 pub mod Later
+pub mod Placed
+pub mod Refused
+pub mod Parting
+pub mod Alike
+pub mod Agree
 pub mod Alone
 pub mod Departs
 pub mod Replays
-pub mod Placed
-pub mod Refused
 pub mod Offered
 pub mod Ranged

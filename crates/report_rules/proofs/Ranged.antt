@@ -2,16 +2,15 @@
 use Rattle.std.proofs.Common.{◌≡◌, ℕ, ◌+◌, ◌^◌, ◌<◌, ◌≤◌, ◌==◌, nat_lt, ℤ, Bool, true, false, not, ◌&&◌, List, [], ◌∷◌, ◌++◌, length, map, flat_map, Option, Some, None, refl, ap, ◌∙◌, arith, subst, length-append}
 use Rattle.std.specs.List.{All, list_all, enumerate_from}
 use Rattle.std.proofs.lemmas.Bool.Decides.{nat_tests}
-use Rattle.std.proofs.lemmas.List.{get_or_append_left}
 use Rattle.std.proofs.lemmas.List.Elements.{All-head, All-tail}
 use Rattle.std.proofs.lemmas.List.Folds.{list_all-append}
 use Rattle.set_rules.specs.Box.{hull as hull_of}
 use Rattle.set_rules.proofs.ImageSets.{length-tabulate}
-use Rattle.farkas_check.specs.Certificate.{Certificate, by_out, by_rows}
+use Rattle.farkas_check.specs.Certificate.{Certificate}
 use Rattle.plant_model.specs.Plant.{Plant, Sample, sample_at}
 use Rattle.observer_step.specs.Predicted.{out_of, hulls}
 use Rattle.observer_step.specs.Seen.{is_printable_interval}
-use Rattle.observer_step.specs.Answers.{zonotope_observer, due_at, refutes_none, is_justified, any_justified, allows_at}
+use Rattle.observer_step.specs.Answers.{zonotope_observer, any_justified, allows_at}
 use Rattle.model_bank.specs.Answers.{ModelAnswer, answers_from, all_allowed}
 use Rattle.model_bank.specs.Stepping.{Refusal, RefusesOffer}
 use Rattle.report_text.specs.Line.{pred, exclude, hull, status}
@@ -20,7 +19,8 @@ use Rattle.report_rules.specs.Lines.{pred_lines, hull_lines, outcome_lines, mode
 use Rattle.report_rules.specs.Report.{Choice, lives_before}
 use Rattle.report_rules.specs.Replay.{AreFew, Replayed}
 use Rattle.report_rules.proofs.Placed.{both, and-true, answer_at}
-use Rattle.report_rules.proofs.Offered.{refused_lines, due-below, below-all, few-outputs, few-models}
+use Rattle.report_rules.proofs.Alike.{allowed-fits}
+use Rattle.report_rules.proofs.Offered.{All-front, refused_lines, below-all, few-outputs, few-models}
 
 below-test : (n m : ℕ) → n < m → nat_lt n m ≡ true
 below-test n m h = grind (arith, nat_tests)
@@ -47,39 +47,28 @@ hulls-ranged i j (e ∷ es) h few printed =
     and-true (is_in_range (hull i j e.0 e.1)) (list_all is_in_range (map (λ h. hull i h.0 h.1.0 h.1.1) (enumerate_from (j + 1) es)))
     (and-true (is_model_index i && is_state_index j) (is_printable_interval e) indices parts.0) (hulls-ranged i (j + 1) es h (omega arith) parts.1)
 
--- a certificate that is justified names an output that is due
-certificate-ranged : (due : Option ℕ) (c : Certificate) → ((q : ℕ) → due ≡ Some q → q < 6) → is_justified due refutes_none (Some c) ≡ true
-    → is_certificate c ≡ true
-certificate-ranged (Some o) (by_out q) below h = within q o (below o refl) h
-  where
-    within : (q o : ℕ) → o < 6 → (q == o) ≡ true → nat_lt q 6 ≡ true
-    within q o l h = grind (arith, nat_tests)
-certificate-ranged (Some o) (by_rows ls) below h = absurd cc
-certificate-ranged None (by_out q) below h = absurd cc
-certificate-ranged None (by_rows ls) below h = absurd cc
-
 module _ (samples : List Sample) (k : ℕ) where
   outcome-ranged : (i : ℕ) (p : Plant) (c : Option Certificate) → i < 16 → p.outputs ≤ 6 → p.states ≤ 8
       → allows_at any_justified zonotope_observer p samples k c ≡ true
-      → list_all is_printable_interval (answer_at samples k p c).hulls ≡ true
-      → list_all is_in_range (outcome_lines i c (answer_at samples k p c).hulls (answer_at samples k p c).is_widened) ≡ true
+      → list_all is_printable_interval (answer_at zonotope_observer samples k p c).hulls ≡ true
+      → list_all is_in_range (outcome_lines i c (answer_at zonotope_observer samples k p c).hulls (answer_at zonotope_observer samples k p c).is_widened) ≡ true
   outcome-ranged i p (Some cert) h outs states allowed printed =
-      let named = certificate-ranged (due_at zonotope_observer p samples k) cert (λ q e. omega (arith, due-below p samples k q e, outs)) allowed in
+      let named = allowed-fits zonotope_observer samples k p (Some cert) outs allowed in
       and-true (is_in_range (exclude i cert)) true (and-true (is_model_index i) (is_certificate cert) (below-test i 16 h) named) refl
   outcome-ranged i p None h outs states allowed printed =
       let z = zonotope_observer.corrected p samples k in
       let hs = hulls p z in
       let few : 0 + length hs ≤ 8 = omega (arith, length-tabulate p.states (hull_of z), states) in
-      let last = status i (not (answer_at samples k p None).is_widened) in
+      let last = status i (not (answer_at zonotope_observer samples k p None).is_widened) in
       list_all-append is_in_range (hull_lines i hs) (last ∷ [])
       ∙ and-true (list_all is_in_range (hull_lines i hs)) (list_all is_in_range (last ∷ [])) (hulls-ranged i 0 hs h few printed) (and-true (is_in_range last) true (below-test i 16 h) refl)
 
   model-ranged : (i : ℕ) (p : Plant) (c : Option Certificate) → i < 16 → p.outputs ≤ 6 → p.states ≤ 8
       → allows_at any_justified zonotope_observer p samples k c ≡ true
-      → CanBePrinted (record { index = i; answer = answer_at samples k p c })
-      → list_all is_in_range (model_lines (record { index = i; answer = answer_at samples k p c })) ≡ true
+      → CanBePrinted (record { index = i; answer = answer_at zonotope_observer samples k p c })
+      → list_all is_in_range (model_lines (record { index = i; answer = answer_at zonotope_observer samples k p c })) ≡ true
   model-ranged i p c h outs states allowed printed =
-      let a = answer_at samples k p c in
+      let a = answer_at zonotope_observer samples k p c in
       let few : 0 + length a.predicted ≤ 6 = omega (arith, length-tabulate p.outputs (out_of p (sample_at samples k).inputs (zonotope_observer.predicted p samples k)), outs) in
       list_all-append is_in_range (pred_lines i a.predicted) (outcome_lines i c a.hulls a.is_widened)
       ∙ and-true (list_all is_in_range (pred_lines i a.predicted)) (list_all is_in_range (outcome_lines i c a.hulls a.is_widened)) (preds-ranged i 0 a.predicted h few printed.0)
@@ -95,7 +84,7 @@ module _ (samples : List Sample) (k : ℕ) where
   models-ranged i (p ∷ ps) [] cs few outs states allowed printed = refl
   models-ranged i (p ∷ ps) (live ∷ lives) [] few outs states allowed printed = refl
   models-ranged i (p ∷ ps) (true ∷ lives) (c ∷ cs) few outs states allowed printed =
-      let m : ModelAnswer = record { index = i; answer = answer_at samples k p c } in
+      let m : ModelAnswer = record { index = i; answer = answer_at zonotope_observer samples k p c } in
       let others = answers_from zonotope_observer (i + 1) ps lives cs samples k in
       let parts = both (allows_at any_justified zonotope_observer p samples k c) (all_allowed any_justified zonotope_observer ps lives cs samples k) allowed in
       list_all-append is_in_range (model_lines m) (flat_map model_lines others)
@@ -104,9 +93,6 @@ module _ (samples : List Sample) (k : ℕ) where
       (models-ranged (i + 1) ps lives cs (omega arith) (All-tail (λ (p : Plant). p.outputs ≤ 6) p ps outs) (All-tail (λ (p : Plant). p.states ≤ 8) p ps states) parts.1 (All-tail CanBePrinted m others printed))
   models-ranged i (p ∷ ps) (false ∷ lives) (c ∷ cs) few outs states allowed printed =
       models-ranged (i + 1) ps lives cs (omega arith) (All-tail (λ (p : Plant). p.outputs ≤ 6) p ps outs) (All-tail (λ (p : Plant). p.states ≤ 8) p ps states) allowed printed
-
-All-front : {A : Type 0} (P : A → Type 0) (xs ys : List A) → All P (xs ++ ys) → All P xs
-All-front P xs ys all k d l = subst P (get_or_append_left xs ys d k l) (all k d (omega (arith, length-append xs ys)))
 
 -- the lines of the sample up to the predictions of the refused model
 pub refused_lines-ranged : (names : List (List ℕ)) (ps : List Plant) (taken : List Sample) (c : Choice) (bytes left : List ℕ)

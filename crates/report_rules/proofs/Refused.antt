@@ -1,18 +1,17 @@
--- Where a model's offer is not justified, the bytes do not go on by its outcome.
-use Rattle.std.proofs.Common.{◌≡◌, ◌≢◌, ◌⊎◌, inl, inr, ℕ, ◌+◌, ◌<◌, ◌≤◌, ◌==◌, nat_le, ℤ, Bool, true, false, not, ◌||◌, ◌&&◌, List, [], ◌∷◌, ◌++◌, length, get_or, drop, map, Option, Some, None, option_map, refl, sym, ap, ◌∙◌, arith, subst, append_assoc}
+-- What an outcome begins with, and the offer that was read at its place.
+use Rattle.std.proofs.Common.{◌≡◌, ◌≢◌, ◌⊎◌, inl, inr, ℕ, ◌+◌, ◌<◌, ◌≤◌, nat_le, ℤ, Bool, true, false, not, ◌||◌, ◌&&◌, List, [], ◌∷◌, ◌++◌, length, get_or, drop, map, Option, Some, None, refl, sym, ap, ◌∙◌, arith, subst, append_assoc}
 use Rattle.std.specs.List.{enumerate_from, list_all, list_any}
 use Rattle.std.proofs.lemmas.Bool.Decides.{nat_tests}
 use Rattle.std.proofs.lemmas.List.{length-drop}
-use Rattle.farkas_check.specs.Certificate.{Certificate, by_out}
-use Rattle.observer_step.specs.Answers.{refutes_none, is_justified}
+use Rattle.farkas_check.specs.Certificate.{Certificate}
 use Rattle.report_text.specs.Line.{Line, exclude, hull, status, line_text, put_text, lines_text}
 use Rattle.report_text.specs.Laws.{is_feed}
-use Rattle.report_text.specs.Ranges.{is_in_range}
+use Rattle.report_text.specs.Ranges.{is_in_range, is_model_index, is_certificate}
 use Rattle.report_text.proofs.Guessed.{lines-differ}
-use Rattle.report_text.proofs.Sizes.{lines-are_short, lines-have_no_feed}
+use Rattle.report_text.proofs.Sizes.{lines-are_short, lines-have_no_feed, exclusions-differ}
 use Rattle.report_rules.specs.Lines.{outcome_lines}
-use Rattle.report_rules.specs.Replay.{with_feeds, is_short_line, HasNoLine, IsOffer, TakesEnough}
-use Rattle.report_rules.proofs.Placed.{both}
+use Rattle.report_rules.specs.Replay.{with_feeds, is_short_line, HasNoLine, IsOfferIn, IsOffer, TakesEnough}
+use Rattle.report_rules.proofs.Placed.{both, and-true}
 
 -- ---- lines that end at their first feed
 
@@ -104,77 +103,93 @@ outcome-begins i None [] w some = absurd (omega (arith, some refl))
 outcome-begins i None (h ∷ hs) w some =
     (hull i 0 h.0 h.1, map (λ h. hull i h.0 h.1.0 h.1.1) (enumerate_from 1 hs) ++ status i (not w) ∷ [], refl, (h.0, h.1, refl))
 
-same-passes : (q : ℕ) → (q == q) ≡ true
-same-passes q = grind (arith, nat_tests)
+-- ---- outcomes of one model are told from one another
 
--- ---- the line of a refused offer
+-- a certificate that is in range, or none
+abbrev pub Fits : Option Certificate → Type 0
+Fits (Some c) = is_certificate c ≡ true
+Fits None = Unit
 
-module _ (i : ℕ) (few : i < 16) (due : Option ℕ) (below : (q : ℕ) → due ≡ Some q → q < 6) (offered : Option Certificate) (refused : is_justified due refutes_none offered ≡ false)
-    (l : Line) (outcome : IsOutcome i (option_map by_out due) l) (r : List ℕ) where
-  -- the offer that was read in a line is not what is due
-  offer-differs : (t us : List ℕ) → is_short_line t ≡ true → IsOffer i (t ∷ []) offered → t ++ 10 ∷ us ≢ put_text l ++ r
-  offer-differs t us short offer e = by due offered below refused outcome offer
+-- an exclusion is told from a hull by its first byte
+exclusion-or-hull : (i x : ℕ) (c : Certificate) (lo hi : ℤ) (r r' : List ℕ) → line_text (exclude i c) ++ r ≢ line_text (hull i x lo hi) ++ r'
+exclusion-or-hull i x c lo hi r r' e = letters (ap (λ (t : List ℕ). get_or t 0 0) e)
+  where
+    letters : ◌≡◌ {A = ℕ} 120 104 → ⊥
+    letters e = absurd (omega (arith, e))
+
+module _ (i : ℕ) (few : i < 16) where
+  is-index : is_model_index i ≡ true
+  is-index = grind (arith, nat_tests)
+
+  exclusion-ranged : (c : Certificate) → is_certificate c ≡ true → is_in_range (exclude i c) ≡ true
+  exclusion-ranged c h = and-true (is_model_index i) (is_certificate c) is-index h
+
+  pub outcomes-differ : (offer c : Option Certificate) → Fits offer → Fits c → offer ≢ c → (l l' : Line) → IsOutcome i offer l → IsOutcome i c l'
+      → (r r' : List ℕ) → put_text l ++ r ≢ put_text l' ++ r'
+  outcomes-differ offer c fits fits' other l l' first second r r' e = by offer c fits fits' other first second
     where
-      text : t ++ 10 ∷ us ≡ line_text l ++ 10 ∷ r
-      text = e ∙ append_assoc (line_text l) (10 ∷ []) r
+      text : line_text l ++ 10 ∷ r ≡ line_text l' ++ 10 ∷ r'
+      text = sym (append_assoc (line_text l) (10 ∷ []) r) ∙ e ∙ append_assoc (line_text l') (10 ∷ []) r'
 
-      in-range : (q : ℕ) → q < 6 → is_in_range (exclude i (by_out q)) ≡ true
-      in-range q h = grind (arith, nat_tests)
+      spelled : (k k' : Line) → l ≡ k → l' ≡ k' → line_text k ++ 10 ∷ r ≡ line_text k' ++ 10 ∷ r'
+      spelled k k' is is' = ap (λ l. line_text l ++ 10 ∷ r) (sym is) ∙ text ∙ ap (λ l. line_text l ++ 10 ∷ r') is'
 
-      same-out : (c : Certificate) (q : ℕ) → exclude i c ≡ exclude i (by_out q) → c ≡ by_out q
-      same-out c q e = cc
+      by : (offer c : Option Certificate) → Fits offer → Fits c → offer ≢ c → IsOutcome i offer l → IsOutcome i c l' → ⊥
+      by None None fits fits' other is is' = other refl
+      by None (Some y) fits fits' other is is' =
+          exclusion-or-hull i 0 y is.0 is.1 (10 ∷ r') (10 ∷ r) (sym (spelled (hull i 0 is.0 is.1) (exclude i y) is.2 is'))
+      by (Some x) None fits fits' other is is' =
+          exclusion-or-hull i 0 x is'.0 is'.1 (10 ∷ r) (10 ∷ r') (spelled (exclude i x) (hull i 0 is'.0 is'.1) is is'.2)
+      by (Some x) (Some y) fits fits' other is is' =
+          let both = ap (λ l. put_text l ++ r) (sym is) ∙ e ∙ ap (λ l. put_text l ++ r') is' in
+          other (ap Some (exclusions-differ i x y r r' is-index fits fits' both).0)
 
-      read : (q : ℕ) → q < 6 → l ≡ exclude i (by_out q) → t ≡ line_text (exclude i (by_out q))
-      read q h is =
-          (feed-fronts t (line_text (exclude i (by_out q))) us r (short-feeds t short) (lines-have_no_feed (exclude i (by_out q)) (in-range q h))
-          (text ∙ ap (λ l. line_text l ++ 10 ∷ r) is)).0
+  -- ---- the offer that was read, where the text goes on by an outcome
 
-      letters : ◌≡◌ {A = ℕ} 120 104 → ⊥
-      letters e = absurd (omega (arith, e))
+  module _ (c : Option Certificate) (fits : Fits c) (l : Line) (outcome : IsOutcome i c l) (r : List ℕ) (offered : Option Certificate) where
+    -- it is the certificate of that outcome
+    offer-in : (t us : List ℕ) → is_short_line t ≡ true → IsOfferIn i t offered → t ++ 10 ∷ us ≡ put_text l ++ r → offered ≡ c
+    offer-in t us short offer e = by offered c fits outcome offer
+      where
+        text : t ++ 10 ∷ us ≡ line_text l ++ 10 ∷ r
+        text = e ∙ append_assoc (line_text l) (10 ∷ []) r
 
-      by : (due : Option ℕ) (offered : Option Certificate) → ((q : ℕ) → due ≡ Some q → q < 6) → is_justified due refutes_none offered ≡ false
-          → IsOutcome i (option_map by_out due) l
-          → IsOffer i (t ∷ []) offered → ⊥
-      by None None below refused is offer = absurd cc
-      by None (Some c) below refused is offer =
-          let both : line_text (exclude i c) ++ 10 ∷ us ≡ line_text (hull i 0 is.0 is.1) ++ 10 ∷ r =
-          ap (λ t. t ++ 10 ∷ us) (sym offer.spelled) ∙ text ∙ ap (λ l. line_text l ++ 10 ∷ r) is.2 in
-          letters (ap (λ (t : List ℕ). get_or t 0 0) both)
-      by (Some q) None below refused is offer =
-          let h = below q refl in
-          offer (by_out q) (record { in_range = in-range q h; spelled = read q h is })
-      by (Some q) (Some c) below refused is offer =
-          let h = below q refl in
-          let same = lines-differ (exclude i c) (exclude i (by_out q)) offer.in_range (in-range q h) (sym offer.spelled ∙ read q h is) in
-          let passes : is_justified (Some q) refutes_none (Some c) ≡ true = ap (λ c. is_justified (Some q) refutes_none (Some c)) (same-out c q same) ∙ same-passes q in
-          absurd (cc)
+        read : (y : Certificate) → is_certificate y ≡ true → l ≡ exclude i y → t ≡ line_text (exclude i y)
+        read y h is =
+            (feed-fronts t (line_text (exclude i y)) us r (short-feeds t short) (lines-have_no_feed (exclude i y) (exclusion-ranged y h))
+            (text ∙ ap (λ l. line_text l ++ 10 ∷ r) is)).0
 
-  -- where none was read, an output is due, and its line is in range
-  none-starts : offered ≡ None → is_in_range l ≡ true
-  none-starts none = by due below (ap (is_justified due refutes_none) (sym none) ∙ refused) outcome
-    where
-      by : (due : Option ℕ) → ((q : ℕ) → due ≡ Some q → q < 6) → is_justified due refutes_none None ≡ false → IsOutcome i (option_map by_out due) l
-          → is_in_range l ≡ true
-      by None below refused is = absurd cc
-      by (Some q) below refused is = ap is_in_range is ∙ in-range q (below q refl)
-        where
-          in-range : (q : ℕ) → q < 6 → is_in_range (exclude i (by_out q)) ≡ true
-          in-range q h = grind (arith, nat_tests)
+        same-certificate : (x y : Certificate) → exclude i x ≡ exclude i y → x ≡ y
+        same-certificate x y e = cc
 
-  -- the text does not go on by it
-  pub refused-differs : (ls : List Line) (ts : List (List ℕ)) (rest v : List ℕ) → list_all is_in_range ls ≡ true → list_all is_short_line ts ≡ true
-      → with_feeds ts ++ rest ≡ lines_text ls ++ v
-      → IsOffer i (drop (length ls) ts) offered → TakesEnough (length ls + 1) ts rest → v ≢ put_text l ++ r
-  refused-differs ls ts rest v ranges short e offer enough is = by (aligned rest v ls ts ranges short e) enough
-    where
-      behind : (us : List (List ℕ)) → list_all is_short_line us ≡ true → with_feeds us ++ rest ≡ v → IsOffer i us offered → (us ≡ [] → HasNoLine rest) → ⊥
-      behind [] shorts e offer none =
-          no-start rest (none refl) (l, none-starts offer, r, e ∙ is)
-      behind (t ∷ us) shorts e offer none =
-          offer-differs t (with_feeds us ++ rest) (both (is_short_line t) (list_all is_short_line us) shorts).0 offer (sym (feeds-front t (with_feeds us) rest) ∙ e ∙ is)
+        by : (offered c : Option Certificate) → Fits c → IsOutcome i c l → IsOfferIn i t offered → offered ≡ c
+        by None None fits is offer = refl
+        by None (Some y) fits is offer = absurd (offer y (record { in_range = exclusion-ranged y fits; spelled = read y fits is }))
+        by (Some x) None fits is offer =
+            absurd (exclusion-or-hull i 0 x is.0 is.1 (10 ∷ us) (10 ∷ r) (ap (λ t. t ++ 10 ∷ us) (sym offer.spelled) ∙ text ∙ ap (λ l. line_text l ++ 10 ∷ r) is.2))
+        by (Some x) (Some y) fits is offer =
+            ap Some (same-certificate x y (lines-differ (exclude i x) (exclude i y) offer.in_range (exclusion-ranged y fits) (sym offer.spelled ∙ read y fits is)))
 
-      by : Aligned rest v ls ts → TakesEnough (length ls + 1) ts rest → ⊥
-      by (inr before) (inl many) = absurd (omega (arith, before.0, many))
-      by (inr before) (inr none) = no-start rest none before.1
-      by (inl past) (inr none) = behind (drop (length ls) ts) past.0 past.1 offer (λ _. none)
-      by (inl past) (inl many) = behind (drop (length ls) ts) past.0 past.1 offer (λ e. absurd (omega (arith, many, ap length e, length-drop (length ls) ts)))
+    -- where no line was read, it is none
+    no-offer : offered ≡ None → (rest : List ℕ) → HasNoLine rest → rest ≡ put_text l ++ r → offered ≡ c
+    no-offer none rest no-line e = by c fits outcome
+      where
+        by : (c : Option Certificate) → Fits c → IsOutcome i c l → offered ≡ c
+        by None fits is = none
+        by (Some y) fits is = absurd (no-start rest no-line (exclude i y, exclusion-ranged y fits, r, e ∙ ap (λ l. put_text l ++ r) is))
+
+    pub offer-read : (ls : List Line) (ts : List (List ℕ)) (rest v : List ℕ) → list_all is_in_range ls ≡ true → list_all is_short_line ts ≡ true
+        → with_feeds ts ++ rest ≡ lines_text ls ++ v
+        → IsOffer i (drop (length ls) ts) offered → TakesEnough (length ls + 1) ts rest → v ≡ put_text l ++ r → offered ≡ c
+    offer-read ls ts rest v ranges short e offer enough is = by (aligned rest v ls ts ranges short e) enough
+      where
+        behind : (us : List (List ℕ)) → list_all is_short_line us ≡ true → with_feeds us ++ rest ≡ v → IsOffer i us offered → (us ≡ [] → HasNoLine rest) → offered ≡ c
+        behind [] shorts e offer none = no-offer offer rest (none refl) (e ∙ is)
+        behind (t ∷ us) shorts e offer none =
+            offer-in t (with_feeds us ++ rest) (both (is_short_line t) (list_all is_short_line us) shorts).0 offer (sym (feeds-front t (with_feeds us) rest) ∙ e ∙ is)
+
+        by : Aligned rest v ls ts → TakesEnough (length ls + 1) ts rest → offered ≡ c
+        by (inr before) (inl many) = absurd (omega (arith, before.0, many))
+        by (inr before) (inr none) = absurd (no-start rest none before.1)
+        by (inl past) (inr none) = behind (drop (length ls) ts) past.0 past.1 offer (λ _. none)
+        by (inl past) (inl many) = behind (drop (length ls) ts) past.0 past.1 offer (λ e. absurd (omega (arith, many, ap length e, length-drop (length ls) ts)))

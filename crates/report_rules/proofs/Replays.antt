@@ -1,19 +1,23 @@
 -- What is known in the middle of a check goes on from sample to sample, and where the bytes depart in a sample.
-use Rattle.std.proofs.Common.{◌≡◌, ◌≢◌, ◌⊎◌, inl, inr, ℕ, zero, suc, ◌+◌, ◌<◌, ◌≤◌, ◌==◌, Bool, true, false, List, [], ◌∷◌, ◌++◌, length, get_or, take, drop, Option, if◌then◌else◌, sym, ap, ◌∙◌, arith, subst, append_assoc, length-append, drop-cons}
+use Rattle.std.proofs.Common.{◌≡◌, ◌≢◌, ◌⊎◌, inl, inr, ℕ, zero, suc, ◌+◌, ◌<◌, ◌≤◌, ◌==◌, Bool, true, false, List, [], ◌∷◌, ◌++◌, length, get_or, take, drop, Option, if◌then◌else◌, refl, sym, ap, ◌∙◌, arith, subst, append_assoc, length-append}
+use Rattle.std.specs.List.{list_all}
 use Rattle.std.proofs.lemmas.Bool.Decides.{nat_tests}
 use Rattle.std.proofs.Math.Nat.{eq-or-lt_of_le}
-use Rattle.std.proofs.lemmas.List.{append-nil, take-append-drop, length-take-le}
+use Rattle.std.proofs.lemmas.List.{append-nil, append_cancel_left, length-take-le}
 use Rattle.farkas_check.specs.Certificate.{Certificate}
 use Rattle.plant_model.specs.Plant.{Plant, Sample}
 use Rattle.observer_step.specs.Answers.{any_justified, zonotope_observer}
-use Rattle.model_bank.specs.Answers.{all_allowed, sample_answer, live_after, certificates_at}
+use Rattle.model_bank.specs.Answers.{all_allowed, sample_answer, live_after}
 use Rattle.report_text.specs.Line.{Line, put_text, lines_text}
+use Rattle.report_text.specs.Ranges.{is_in_range}
 use Rattle.report_rules.specs.Lines.{head_lines, sample_lines, last_lines}
-use Rattle.report_rules.specs.Report.{Choice, lives_before, samples_lines, due_choice}
-use Rattle.report_rules.specs.Replay.{watch, lines_so_far, Replayed, chosen_at, DepartsAt}
-use Rattle.report_rules.proofs.Later.{all_allowed-same, lines-same, lives-alike, lines-alike, due-lines-same, due-lives-same, sample_answer-same, certificates-same}
-use Rattle.report_rules.proofs.Alone.{due_report, sample_answer-due, samples_lines-due, lives_before-due}
-use Rattle.report_rules.proofs.Departs.{lines_text-append, departs}
+use Rattle.report_rules.specs.Report.{Watch, Choice, lives_before, samples_lines}
+use Rattle.report_rules.specs.Replay.{AreFew, watch, lines_so_far, Replayed, chosen_at, DepartsAt, with_feeds, is_short_line, OffersAre, Takes, TakesEnough}
+use Rattle.report_rules.proofs.Later.{all_allowed-same, lines-same, lives-alike, lines-alike, sample_answer-same}
+use Rattle.report_rules.proofs.Parting.{BeginsOrParts, parts-like, parts-before, cut-at, next-line}
+use Rattle.report_rules.proofs.Alike.{IsAllowedTo, lines-more, SampleAlike, sample-alike, front-alike}
+use Rattle.report_rules.proofs.Agree.{extended, extended-lines, extended-allowed}
+use Rattle.report_rules.proofs.Departs.{IsJustified, report_of, lines_text-append, departs}
 
 -- ---- a choice that is changed at one sample
 
@@ -124,113 +128,189 @@ module _ (names : List (List ℕ)) (ps : List Plant) (taken : List Sample) (c : 
 
   -- ---- the report of more samples
 
-  -- the certificates that are due for the sample
-  abbrev dues : List (Option Certificate)
-  dues = certificates_at zonotope_observer ps all k
-
-  -- its lines with them
-  abbrev pub due_lines : List Line
-  due_lines = sample_lines (sample_answer zonotope_observer ps lives dues all k)
-
-  -- with what is justified they are the same
-  pub justified-lines : (cs : List (Option Certificate)) → all_allowed any_justified zonotope_observer ps lives cs all k ≡ true
-      → sample_lines (sample_answer zonotope_observer ps lives cs all k) ≡ due_lines
-  justified-lines cs allowed = ap sample_lines (sample_answer-due all k ps lives cs allowed)
+  -- the lines of the sample with some certificates, or none, by model
+  abbrev lines_by : List (Option Certificate) → List Line
+  lines_by cs = sample_lines (sample_answer zonotope_observer ps lives cs all k)
 
   module _ (more : List Sample) where
     abbrev whole : List Sample
     whole = all ++ more
 
-    abbrev due : Choice
-    due = due_choice zonotope_observer ps whole
-
     -- the lines of some samples begin those of more
-    lines-begin : (n extra : ℕ) → (others : List Line) × (samples_lines zonotope_observer ps whole due (n + extra) ≡ samples_lines zonotope_observer ps whole due n ++ others)
-    unfolding samples_lines
-    lines-begin n zero = let e : n + 0 ≡ n = omega arith in ([], ap (samples_lines zonotope_observer ps whole due) e ∙ sym (append-nil (samples_lines zonotope_observer ps whole due n)))
-    lines-begin n (suc extra) =
-        let before = lines-begin n extra in
-        let lines = sample_lines (sample_answer zonotope_observer ps (lives_before due m (n + extra)) (due (n + extra)) whole (n + extra)) in
-        let e : n + suc extra ≡ suc (n + extra) = omega arith in
-        (before.0 ++ lines, ap (samples_lines zonotope_observer ps whole due) e ∙ ap (λ ls. ls ++ lines) before.1 ∙ append_assoc (samples_lines zonotope_observer ps whole due n) before.0 lines)
+    lines-begin : (d : Choice) (n extra : ℕ) → (others : List Line) × (samples_lines zonotope_observer ps whole d (n + extra) ≡ samples_lines zonotope_observer ps whole d n ++ others)
+    lines-begin d n zero = let e : n + 0 ≡ n = omega arith in ([], ap (samples_lines zonotope_observer ps whole d) e ∙ sym (append-nil (samples_lines zonotope_observer ps whole d n)))
+    lines-begin d n (suc extra) =
+        let before = lines-begin d n extra in
+        let lines = sample_lines (sample_answer zonotope_observer ps (lives_before d m (n + extra)) (d (n + extra)) whole (n + extra)) in
+        let e : n + suc extra ≡ suc (n + extra) = omega arith in (
+          before.0 ++ lines,
+          ap (samples_lines zonotope_observer ps whole d) e ∙ lines-more zonotope_observer ps whole d (n + extra) ∙ ap (λ ls. ls ++ lines) before.1
+              ∙ append_assoc (samples_lines zonotope_observer ps whole d n) before.0 lines,
+        )
 
     split-whole : whole ≡ taken ++ s ∷ more
     split-whole = append_assoc taken (s ∷ []) more
 
-    lines-taken : samples_lines zonotope_observer ps whole due k ≡ samples_lines zonotope_observer ps taken c k
-    lines-taken =
-        ap (λ t. samples_lines zonotope_observer ps t (due_choice zonotope_observer ps t) k) split-whole
-        ∙ due-lines-same ps taken (s ∷ more) k (omega arith) ∙ sym (samples_lines-due ps taken c k replayed.allowed)
-
-    lives-taken : lives_before due m k ≡ lives
-    lives-taken =
-        ap (λ t. lives_before (due_choice zonotope_observer ps t) m k) split-whole
-        ∙ due-lives-same ps taken (s ∷ more) k (omega arith) ∙ sym (lives_before-due ps taken c k replayed.allowed)
-
-    lines-then : samples_lines zonotope_observer ps whole due (k + 1) ≡ samples_lines zonotope_observer ps taken c k ++ due_lines
-    unfolding samples_lines
-    lines-then =
-        let e : k + 1 ≡ suc k = omega arith in
-        let within : k < length all = omega (arith, one-more) in
-        ap (samples_lines zonotope_observer ps whole due) e
-        ∙ ap (λ ls. ls ++ sample_lines (sample_answer zonotope_observer ps (lives_before due m k) (due k) whole k)) lines-taken
-        ∙ ap (λ ls. samples_lines zonotope_observer ps taken c k ++ sample_lines (sample_answer zonotope_observer ps ls (due k) whole k)) lives-taken
-        ∙ ap (λ cs. samples_lines zonotope_observer ps taken c k ++ sample_lines (sample_answer zonotope_observer ps lives cs whole k)) (certificates-same all more ps k within)
-        ∙ ap (λ a. samples_lines zonotope_observer ps taken c k ++ sample_lines a) (sample_answer-same all more ps lives dues k within)
+    many-samples : length whole ≡ k + 1 + length more
+    many-samples = omega (arith, length-append all more, one-more)
 
     module _ (is_whole : Bool) where
-      -- the report of more samples has the lines so far, those of the sample, and others
-      longer-report : (others : List Line) × (due_report (watch names ps whole is_whole) ≡ front ++ (due_lines ++ others))
-      longer-report =
-          let rest = lines-begin (k + 1) (length more) in
-          let last = last_lines (length whole) is_whole in
-          let head = head_lines names in
-          let lines = samples_lines zonotope_observer ps taken c k in
-          let many : length whole ≡ k + 1 + length more = omega (arith, length-append all more, one-more) in (
-            rest.0 ++ last,
-            ap (λ n. head ++ samples_lines zonotope_observer ps whole due n ++ last) many
-                ∙ ap (λ ls. head ++ ls ++ last) rest.1
-                ∙ ap (λ ls. head ++ (ls ++ rest.0) ++ last) lines-then
-                ∙ grouped head lines due_lines rest.0 last,
-          )
-        where
-          grouped : (a b e f g : List Line) → a ++ ((b ++ e) ++ f) ++ g ≡ (a ++ b) ++ (e ++ (f ++ g))
-          grouped a b e f g = simp append_assoc
+      abbrev w : Watch
+      w = watch names ps whole is_whole
 
-      -- the sample's lines stand in the report up to one, and the bytes go on otherwise than by it
-      pub line-departs : (begin : List Line) (l : Line) (tail : List Line) (v : List ℕ) → due_lines ≡ begin ++ l ∷ tail → left ≡ lines_text begin ++ v
-          → ((r : List ℕ) → v ≢ put_text l ++ r)
-          → DepartsAt (watch names ps whole is_whole) (length front + length begin + 1) bytes
-      line-departs begin l tail v is e differs =
-          let report = longer-report in
-          let at : due_report (watch names ps whole is_whole) ≡ (front ++ begin) ++ l ∷ (tail ++ report.0) =
-          report.1 ∙ ap (λ ls. front ++ (ls ++ report.0)) is ∙ grouped front begin (l ∷ tail) report.0 in
-          let text : bytes ≡ lines_text (front ++ begin) ++ v =
-          replayed.text ∙ ap (λ t. lines_text front ++ t) e ∙ sym (append_assoc (lines_text front) (lines_text begin) v)
-          ∙ ap (λ t. t ++ v) (sym (lines_text-append front begin)) in
-          let many : length (front ++ begin) + 1 ≡ length front + length begin + 1 = omega (arith, length-append front begin) in
-          subst (λ n. DepartsAt (watch names ps whole is_whole) n bytes) many (departs (watch names ps whole is_whole) (front ++ begin) l (tail ++ report.0) bytes v at text differs)
-        where
-          grouped : (a b e f : List Line) → a ++ ((b ++ e) ++ f) ≡ (a ++ b) ++ (e ++ f)
-          grouped a b e f = simp append_assoc
+      abbrev last : List Line
+      last = last_lines (length whole) is_whole
 
-      -- the lines begin those of the sample with what is justified, and line j does not stand behind those before it
-      pub sample-departs : (cs : List (Option Certificate)) → all_allowed any_justified zonotope_observer ps lives cs all k ≡ true
-          → (begin tail : List Line) → sample_lines (sample_answer zonotope_observer ps lives cs all k) ≡ begin ++ tail
-          → (j : ℕ) (d : Line) (v : List ℕ) → j < length begin → left ≡ lines_text (take j begin) ++ v → ((r : List ℕ) → v ≢ put_text (get_or begin j d) ++ r)
-          → DepartsAt (watch names ps (all ++ more) is_whole) (length front + j + 1) bytes
-      sample-departs cs allowed begin tail is j d v l e differs =
-          let cut : begin ≡ take j begin ++ get_or begin j d ∷ drop (suc j) begin = sym (take-append-drop j begin) ∙ ap (λ t. take j begin ++ t) (drop-cons begin j d l) in
-          let lines : due_lines ≡ take j begin ++ get_or begin j d ∷ (drop (suc j) begin ++ tail) =
-          sym (justified-lines cs allowed) ∙ is ∙ ap (λ t. t ++ tail) cut ∙ append_assoc (take j begin) (get_or begin j d ∷ drop (suc j) begin) tail in
-          subst (λ n. DepartsAt (watch names ps whole is_whole) (length front + n + 1) bytes) (length-take-le j begin (omega arith))
-          (line-departs (take j begin) (get_or begin j d) (drop (suc j) begin ++ tail) v lines e differs)
+      -- ---- a justified report with certificates for the sample
 
-      -- the same of the lines with the certificates that are due
-      pub due-departs : (j : ℕ) (d : Line) (v : List ℕ) → j < length due_lines → left ≡ lines_text (take j due_lines) ++ v
-          → ((r : List ℕ) → v ≢ put_text (get_or due_lines j d) ++ r) → DepartsAt (watch names ps (all ++ more) is_whole) (length front + j + 1) bytes
-      due-departs j d v l e differs =
-          let cut : due_lines ≡ take j due_lines ++ get_or due_lines j d ∷ drop (suc j) due_lines =
-          sym (take-append-drop j due_lines) ∙ ap (λ t. take j due_lines ++ t) (drop-cons due_lines j d l) in
-          subst (λ n. DepartsAt (watch names ps whole is_whole) (length front + n + 1) bytes) (length-take-le j due_lines (omega arith))
-          (line-departs (take j due_lines) (get_or due_lines j d) (drop (suc j) due_lines) v cut e differs)
+      module _ (os : List (Option Certificate)) (allowed : all_allowed any_justified zonotope_observer ps lives os all k ≡ true) where
+        abbrev kept : Choice
+        kept = extended ps whole (longer os) (length all)
+
+        allowed-whole : IsAllowedTo zonotope_observer ps whole (longer os) (length all)
+        allowed-whole j l = all_allowed-same all more any_justified ps (lives_before (longer os) m j) (longer os j) j l ∙ allowed-then os allowed j l
+
+        kept-justified : IsJustified w kept
+        kept-justified j l = extended-allowed ps whole (longer os) (length all) allowed-whole j
+
+        kept-lines : samples_lines zonotope_observer ps whole kept (length all) ≡ samples_lines zonotope_observer ps taken c k ++ lines_by os
+        kept-lines =
+            extended-lines ps whole (longer os) (length all) allowed-whole
+            ∙ lines-same all more ps (longer os) (length all) (omega arith) ∙ lines-longer os
+
+        -- it has the lines so far, those of the sample, and others
+        kept-report : (others : List Line) × (report_of w kept ≡ front ++ (lines_by os ++ others))
+        kept-report =
+            let rest = lines-begin kept (length all) (length more) in
+            let head = head_lines names in
+            let lines = samples_lines zonotope_observer ps taken c k in
+            let many : length whole ≡ length all + length more = length-append all more in (
+              rest.0 ++ last,
+              ap (λ n. head ++ samples_lines zonotope_observer ps whole kept n ++ last) many
+                  ∙ ap (λ ls. head ++ ls ++ last) (rest.1 ∙ ap (λ ls. ls ++ rest.0) kept-lines)
+                  ∙ grouped head lines (lines_by os) rest.0 last,
+            )
+          where
+            grouped : (a b e f g : List Line) → a ++ ((b ++ e) ++ f) ++ g ≡ (a ++ b) ++ (e ++ (f ++ g))
+            grouped a b e f g = simp append_assoc
+
+      -- ---- every justified report that has the lines so far
+
+      module _ (few : AreFew ps) (c' : Choice) (justified : IsJustified w c') (x : List Line) (is : report_of w c' ≡ front ++ x) where
+        abbrev others : List Line
+        others = (lines-begin c' (k + 1) (length more)).0 ++ last
+
+        abbrev lives' : List Bool
+        lives' = lives_before c' m k
+
+        -- its lines, by those of the first samples, of this one, and of the others
+        split-lines : samples_lines zonotope_observer ps whole c' k ++ (sample_lines (sample_answer zonotope_observer ps lives' (c' k) whole k) ++ others)
+            ≡ samples_lines zonotope_observer ps whole c k ++ x
+        split-lines =
+            let rest = lines-begin c' (k + 1) (length more) in
+            let head = head_lines names in
+            let lines = samples_lines zonotope_observer ps whole c' k in
+            let here = sample_lines (sample_answer zonotope_observer ps lives' (c' k) whole k) in
+            let next : k + 1 ≡ suc k = omega arith in
+            let all-lines : samples_lines zonotope_observer ps whole c' (length whole) ≡ (lines ++ here) ++ rest.0 =
+            ap (samples_lines zonotope_observer ps whole c') many-samples ∙ rest.1
+            ∙ ap (λ ls. ls ++ rest.0) (ap (samples_lines zonotope_observer ps whole c') next ∙ lines-more zonotope_observer ps whole c' k) in
+            let same : samples_lines zonotope_observer ps taken c k ≡ samples_lines zonotope_observer ps whole c k =
+            sym (ap (λ t. samples_lines zonotope_observer ps t c k) split-whole ∙ lines-same taken (s ∷ more) ps c k (omega arith)) in
+            append_cancel_left head (lines ++ (here ++ (rest.0 ++ last))) (samples_lines zonotope_observer ps whole c k ++ x)
+            (sym (ap (λ ls. head ++ ls ++ last) all-lines ∙ grouped head lines here rest.0 last) ∙ is ∙ append_assoc head (samples_lines zonotope_observer ps taken c k) x ∙ ap (λ ls. head ++ (ls ++ x)) same)
+          where
+            grouped : (a b e f g : List Line) → a ++ ((b ++ e) ++ f) ++ g ≡ a ++ (b ++ (e ++ (f ++ g)))
+            grouped a b e f g = simp append_assoc
+
+        allowed-first : IsAllowedTo zonotope_observer ps whole c k
+        allowed-first j l =
+            ap (λ t. all_allowed any_justified zonotope_observer ps (lives_before c m j) (c j) t j) split-whole
+            ∙ all_allowed-same taken (s ∷ more) any_justified ps (lives_before c m j) (c j) j l ∙ replayed.allowed j l
+
+        -- the same lines come first, so the same models are live
+        same-front : (samples_lines zonotope_observer ps whole c k ≡ samples_lines zonotope_observer ps whole c' k) × (lives ≡ lives')
+        same-front =
+            front-alike zonotope_observer ps whole few c c' k allowed-first (λ j l. justified j (omega (arith, l, many-samples)))
+            (sample_lines (sample_answer zonotope_observer ps lives' (c' k) whole k) ++ others) x split-lines
+
+        within-all : k < length all
+        within-all = omega (arith, one-more)
+
+        -- so it has a justified list of certificates for the sample, and its lines with them
+        pub other-allowed : all_allowed any_justified zonotope_observer ps lives (c' k) all k ≡ true
+        other-allowed =
+            sym (all_allowed-same all more any_justified ps lives (c' k) k within-all) ∙ ap (λ lives. all_allowed any_justified zonotope_observer ps lives (c' k) whole k) same-front.1
+            ∙ justified k (omega (arith, many-samples))
+
+        pub other-lines : (others : List Line) × (lines_by (c' k) ++ others ≡ x)
+        other-lines =
+            let lines = samples_lines zonotope_observer ps whole c k in
+            let here = sample_lines (sample_answer zonotope_observer ps lives' (c' k) whole k) in
+            let same : lines_by (c' k) ≡ here =
+            ap sample_lines (sym (sample_answer-same all more ps lives (c' k) k within-all) ∙ ap (λ lives. sample_answer zonotope_observer ps lives (c' k) whole k) same-front.1) in (
+              others,
+              append_cancel_left lines (lines_by (c' k) ++ others) x
+                  (ap (λ ls. lines ++ (ls ++ others)) same ∙ ap (λ ls. ls ++ (here ++ others)) same-front.0 ∙ split-lines),
+            )
+
+      -- ---- where the bytes depart
+
+      module _ (few : AreFew ps) (os : List (Option Certificate)) (allowed : all_allowed any_justified zonotope_observer ps lives os all k ≡ true) where
+        -- justified certificates have these lines and go on with one; whatever justified ones do, the bytes do not go on by their line
+        pub line-departs : (begin : List Line) (l : Line) (tail : List Line) (v : List ℕ)
+            → sample_lines (sample_answer zonotope_observer ps lives os all k) ≡ begin ++ l ∷ tail → left ≡ lines_text begin ++ v
+            → ((cs : List (Option Certificate)) → all_allowed any_justified zonotope_observer ps lives cs all k ≡ true → (others : List Line) (l' : Line) (b' : List Line)
+            → sample_lines (sample_answer zonotope_observer ps lives cs all k) ++ others ≡ begin ++ l' ∷ b' → (r : List ℕ) → v ≢ put_text l' ++ r)
+            → DepartsAt (watch names ps (all ++ more) is_whole) (length front + length begin + 1) bytes
+        line-departs begin l tail v is e differs =
+            let report = kept-report os allowed in
+            let at : report_of w (kept os allowed) ≡ (front ++ begin) ++ l ∷ (tail ++ report.0) =
+            report.1 ∙ ap (λ ls. front ++ (ls ++ report.0)) is ∙ grouped front begin (l ∷ tail) report.0 in
+            let text : bytes ≡ lines_text (front ++ begin) ++ v =
+            replayed.text ∙ ap (λ t. lines_text front ++ t) e ∙ sym (append_assoc (lines_text front) (lines_text begin) v)
+            ∙ ap (λ t. t ++ v) (sym (lines_text-append front begin)) in
+            let many : length (front ++ begin) + 1 ≡ length front + length begin + 1 = omega (arith, length-append front begin) in
+            subst (λ n. DepartsAt w n bytes) many
+            (departs w few (kept os allowed) (kept-justified os allowed) (front ++ begin) l (tail ++ report.0) bytes v at text (λ c' justified l' b' is' r goes.
+            let there : report_of w c' ≡ front ++ (begin ++ l' ∷ b') = is' ∙ append_assoc front begin (l' ∷ b') in
+            let lines = other-lines few c' justified (begin ++ l' ∷ b') there in
+            differs (c' k) (other-allowed few c' justified (begin ++ l' ∷ b') there) lines.0 l' b' lines.1 r goes))
+          where
+            grouped : (a b e f : List Line) → a ++ ((b ++ e) ++ f) ≡ (a ++ b) ++ (e ++ f)
+            grouped a b e f = simp append_assoc
+
+        module _ (begin tail : List Line) (is : sample_lines (sample_answer zonotope_observer ps lives os all k) ≡ begin ++ tail) (ranges : list_all is_in_range begin ≡ true)
+            (ts : List (List ℕ)) (rest : List ℕ) (short : list_all is_short_line ts ≡ true) (are : left ≡ with_feeds ts ++ rest) (enough : TakesEnough (length begin) ts rest) where
+          -- lines that begin those of the sample, from which those of others part at an offer that was taken, and line j does not
+          -- stand behind those before it
+          pub begin-departs : {A : List (List ℕ) → Type 0} → A ts
+              → ((cs : List (Option Certificate)) → all_allowed any_justified zonotope_observer ps lives cs all k ≡ true → (others : List Line)
+              → BeginsOrParts A begin (sample_lines (sample_answer zonotope_observer ps lives cs all k) ++ others))
+              → (j : ℕ) (d : Line) (v : List ℕ) → j < length begin → left ≡ lines_text (take j begin) ++ v → ((r : List ℕ) → v ≢ put_text (get_or begin j d) ++ r)
+              → DepartsAt (watch names ps (all ++ more) is_whole) (length front + j + 1) bytes
+          begin-departs was-taken parts j d v l e differs =
+              let lines : lines_by os ≡ take j begin ++ get_or begin j d ∷ (drop (suc j) begin ++ tail) =
+              is ∙ ap (λ t. t ++ tail) (cut-at begin j d l) ∙ append_assoc (take j begin) (get_or begin j d ∷ drop (suc j) begin) tail in
+              subst (λ n. DepartsAt w (length front + n + 1) bytes) (length-take-le j begin (omega (arith, l)))
+              (line-departs (take j begin) (get_or begin j d) (drop (suc j) begin ++ tail) v lines e (λ cs allowed' others l' b' is' r goes.
+              let same = next-line begin left ts rest ranges short are enough was-taken (lines_by cs ++ others) (parts cs allowed' others) j d l v e l' b' is' r goes in
+              differs r (goes ∙ ap (λ l. put_text l ++ r) (sym same))))
+
+        -- the lines of the sample with the offers, which are justified, and line j does not stand behind those before it
+        pub sample-departs : list_all is_in_range (sample_lines (sample_answer zonotope_observer ps lives os all k)) ≡ true → (ts : List (List ℕ)) (rest : List ℕ)
+            → Takes ps lives left ts rest os → TakesEnough (length (sample_lines (sample_answer zonotope_observer ps lives os all k))) ts rest
+            → (j : ℕ) (d : Line) (v : List ℕ) → j < length (sample_lines (sample_answer zonotope_observer ps lives os all k))
+            → left ≡ lines_text (take j (sample_lines (sample_answer zonotope_observer ps lives os all k))) ++ v
+            → ((r : List ℕ) → v ≢ put_text (get_or (sample_lines (sample_answer zonotope_observer ps lives os all k)) j d) ++ r)
+            → DepartsAt (watch names ps (all ++ more) is_whole) (length front + j + 1) bytes
+        sample-departs ranges ts rest takes enough j d v l e differs =
+            begin-departs (lines_by os) [] (sym (append-nil (lines_by os))) ranges ts rest takes.short takes.are enough takes.offers alike j d v l e differs
+          where
+            alike : (cs : List (Option Certificate)) → all_allowed any_justified zonotope_observer ps lives cs all k ≡ true → (others : List Line)
+                → BeginsOrParts (λ ts. OffersAre 0 ps lives (drop 1 ts) os) (lines_by os) (lines_by cs ++ others)
+            alike cs allowed' others = by (sample-alike zonotope_observer all k ps lives os cs few allowed allowed')
+              where
+                by : SampleAlike zonotope_observer all k ps lives os cs → BeginsOrParts (λ ts. OffersAre 0 ps lives (drop 1 ts) os) (lines_by os) (lines_by cs ++ others)
+                by (inl same) = inl (others, ap (λ ls. ls ++ others) (sym same.0))
+                by (inr parts) = inr (parts-like (sym (append-nil (lines_by os))) refl (parts-before [] others parts))
