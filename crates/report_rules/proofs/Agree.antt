@@ -1,10 +1,10 @@
 -- Two justified reports agree as far as their texts do; and a justified choice goes on with the certificates that are due.
-use Rattle.std.proofs.Common.{◌≡◌, ◌⊎◌, inl, inr, ℕ, ◌+◌, ◌<◌, ◌≤◌, nat_lt, Bool, true, false, List, [], ◌∷◌, ◌++◌, length, take, Option, if◌then◌else◌, refl, sym, ap, ◌∙◌, arith, length-append}
+use Rattle.std.proofs.Common.{◌≡◌, ◌⊎◌, inl, inr, ℕ, ◌+◌, ◌<◌, ◌≤◌, nat_lt, Bool, true, false, List, [], ◌∷◌, ◌++◌, length, map, take, Option, if◌then◌else◌, refl, sym, ap, ◌∙◌, arith, length-append}
 use Rattle.std.proofs.lemmas.Bool.Decides.{nat_tests}
 use Rattle.std.proofs.lemmas.List.{append-nil, length-map, take_at}
 use Rattle.farkas_check.specs.Certificate.{Certificate}
 use Rattle.plant_model.specs.Plant.{Plant, Sample}
-use Rattle.observer_step.specs.Answers.{Observer, zonotope_observer, certificate_at, any_justified}
+use Rattle.observer_step.specs.Answers.{Observer, zonotope_observer, any_justified}
 use Rattle.model_bank.specs.Answers.{certificates_at, all_allowed}
 use Rattle.report_text.specs.Line.{Line, lines_text}
 use Rattle.report_rules.specs.Lines.{head_lines, last_lines}
@@ -33,7 +33,8 @@ module _ (o : Observer) (w : Watch) (few : AreFew w.plants) (c c' : Choice) (all
       by : SamplesAlike o w.plants w.samples few c c' (length w.samples) → ReportsAlike
       by (inl same) = inl (ap (λ ls. head_lines w.names ++ ls ++ last_lines (length w.samples) w.is_whole) same.0)
       by (inr parts) =
-          inr (parts-before (last_lines (length w.samples) w.is_whole) (last_lines (length w.samples) w.is_whole) (parts-behind (head_lines w.names) (λ ts t. absurd t) parts))
+          inr (parts-before (last_lines (length w.samples) w.is_whole) (last_lines (length w.samples) w.is_whole)
+          (parts-behind (head_lines w.names) (λ ts t. absurd t) parts))
 
   -- they agree as far as their texts do
   pub reports-agree : AllAgree (report o w c) (report o w c')
@@ -80,21 +81,28 @@ module _ (ps : List Plant) (samples : List Sample) (c : Choice) (n : ℕ) (allow
   pub extended-lines : samples_lines zonotope_observer ps samples (extended ps samples c n) n ≡ samples_lines zonotope_observer ps samples c n
   extended-lines = lines-alike ps samples longer c n before-n
 
+  abbrev every : List Bool
+  every = map (λ p. true) ps
+
   -- something is said of each model
   many-said : (j : ℕ) → length (longer j) ≡ length ps
   many-said j = by (nat_lt j n) refl
     where
       by : (b : Bool) → nat_lt j n ≡ b → length (if b then c j else certificates_at zonotope_observer ps samples j) ≡ length ps
       by true h = (length-allowed zonotope_observer samples j ps (lives_before c (length ps) j) (c j) (allowed j (grind (arith, nat_tests)))).1
-      by false h = length-map ps (λ p. certificate_at zonotope_observer p samples j)
+      by false h = (length-allowed zonotope_observer samples j ps every (certificates_at zonotope_observer ps samples j)
+          (dues-allowed samples j ps every (length-map ps (λ p. true)))).1
 
-  pub extended-allowed : (j : ℕ) → all_allowed any_justified zonotope_observer ps (lives_before (extended ps samples c n) (length ps) j) (extended ps samples c n j) samples j ≡ true
+  pub extended-allowed : (j : ℕ) → all_allowed any_justified zonotope_observer ps (lives_before (extended ps samples c n) (length ps) j)
+      (extended ps samples c n j) samples j ≡ true
   extended-allowed j = by (nat_lt j n) refl
     where
       by : (b : Bool) → nat_lt j n ≡ b
-          → all_allowed any_justified zonotope_observer ps (lives_before longer (length ps) j) (if b then c j else certificates_at zonotope_observer ps samples j) samples j ≡ true
+          → all_allowed any_justified zonotope_observer ps (lives_before longer (length ps) j)
+          (if b then c j else certificates_at zonotope_observer ps samples j) samples j ≡ true
       by true h =
           let within : j < n = grind (arith, nat_tests) in
-          ap (λ lives. all_allowed any_justified zonotope_observer ps lives (c j) samples j) (lives-before_n j (omega (arith, within))) ∙ allowed j within
+          ap (λ lives. all_allowed any_justified zonotope_observer ps lives (c j) samples j) (lives-before_n j (omega (arith, within)))
+          ∙ allowed j within
       by false h =
           dues-allowed samples j ps (lives_before longer (length ps) j) (length-lives_before longer (length ps) j (λ i l. many-said i))

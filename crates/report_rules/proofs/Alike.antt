@@ -50,7 +50,8 @@ module _ (o : Observer) (samples : List Sample) (k : ℕ) where
   due-below : (p : Plant) (q : ℕ) → due_at o p samples k ≡ Some q → q < p.outputs
   unfolding due
   due-below p q e =
-      first-below p.outputs (λ out. reading_misses (out_of p (sample_at samples k).inputs (o.predicted p samples k) out) (reading_at (sample_at samples k) out)) q e
+      first-below p.outputs (λ out. reading_misses (out_of p (sample_at samples k).inputs (o.predicted p samples k) out)
+      (reading_at (sample_at samples k) out)) q e
 
   pub allowed-fits : (p : Plant) (c : Option Certificate) → p.outputs ≤ 6 → allows_at any_justified o p samples k c ≡ true → Fits c
   allowed-fits p None few allowed = tt
@@ -78,7 +79,8 @@ module _ (o : Observer) (samples : List Sample) (k : ℕ) where
   -- the first model parts them
   models-part : (i : ℕ) (p : Plant) (ps : List Plant) (lives : List Bool) (x c : Option Certificate) (os cs : List (Option Certificate))
       → i < 16 → 1 ≤ p.states → Fits x → Fits c → x ≢ c
-      → PartsAt (λ ts. OffersAre i (p ∷ ps) (true ∷ lives) ts (x ∷ os)) (lines_from i (p ∷ ps) (true ∷ lives) (x ∷ os)) (lines_from i (p ∷ ps) (true ∷ lives) (c ∷ cs))
+      → PartsAt (λ ts. OffersAre i (p ∷ ps) (true ∷ lives) ts (x ∷ os)) (lines_from i (p ∷ ps) (true ∷ lives) (x ∷ os))
+      (lines_from i (p ∷ ps) (true ∷ lives) (c ∷ cs))
   models-part i p ps lives x c os cs few some fits fits' other =
       let answer = answer_at o samples k p in
       let preds = pred_lines i (answer x).predicted in
@@ -107,7 +109,8 @@ module _ (o : Observer) (samples : List Sample) (k : ℕ) where
       }
 
   pub models-alike : (i : ℕ) (ps : List Plant) (lives : List Bool) (os cs : List (Option Certificate)) → i + length ps ≤ 16
-      → All (λ (p : Plant). p.outputs ≤ 6) ps → All (λ (p : Plant). 1 ≤ p.states) ps → IsAllowed ps lives os → IsAllowed ps lives cs → ModelsAlike i ps lives os cs
+      → All (λ (p : Plant). p.outputs ≤ 6) ps → All (λ (p : Plant). 1 ≤ p.states) ps → IsAllowed ps lives os → IsAllowed ps lives cs
+      → ModelsAlike i ps lives os cs
   models-alike i [] [] [] [] few outs states h g = inl (refl, refl)
   models-alike i [] [] [] (c ∷ cs) few outs states h g = absurd cc
   models-alike i [] [] (x ∷ os) cs few outs states h g = absurd cc
@@ -116,7 +119,8 @@ module _ (o : Observer) (samples : List Sample) (k : ℕ) where
   models-alike i (p ∷ ps) (live ∷ lives) [] cs few outs states h g = absurd cc
   models-alike i (p ∷ ps) (live ∷ lives) (x ∷ os) [] few outs states h g = absurd cc
   models-alike i (p ∷ ps) (false ∷ lives) (x ∷ os) (c ∷ cs) few outs states h g =
-      by (models-alike (i + 1) ps lives os cs (omega (arith, few)) (All-tail (λ (p : Plant). p.outputs ≤ 6) p ps outs) (All-tail (λ (p : Plant). 1 ≤ p.states) p ps states) h g)
+      by (models-alike (i + 1) ps lives os cs (omega (arith, few)) (All-tail (λ (p : Plant). p.outputs ≤ 6) p ps outs)
+      (All-tail (λ (p : Plant). 1 ≤ p.states) p ps states) h g)
     where
       by : ModelsAlike (i + 1) ps lives os cs → ModelsAlike i (p ∷ ps) (false ∷ lives) (x ∷ os) (c ∷ cs)
       by (inl same) = inl (same.0, ap (λ ls. false ∷ ls) same.1)
@@ -126,17 +130,24 @@ module _ (o : Observer) (samples : List Sample) (k : ℕ) where
       let second = both (allows_at any_justified o p samples k c) (all_allowed any_justified o ps lives cs samples k) g in
       let few-outs = All-head (λ (p : Plant). p.outputs ≤ 6) p ps outs in
       by (allowed-fits p x few-outs first.0) (allowed-fits p c few-outs second.0)
-      (models-alike (i + 1) ps lives os cs (omega (arith, few)) (All-tail (λ (p : Plant). p.outputs ≤ 6) p ps outs) (All-tail (λ (p : Plant). 1 ≤ p.states) p ps states) first.1 second.1)
+      (models-alike (i + 1) ps lives os cs (omega (arith, few)) (All-tail (λ (p : Plant). p.outputs ≤ 6) p ps outs)
+      (All-tail (λ (p : Plant). 1 ≤ p.states) p ps states) first.1 second.1)
       (same-or-other x c)
     where
       later : ModelsAlike (i + 1) ps lives os cs → ModelsAlike i (p ∷ ps) (true ∷ lives) (x ∷ os) (x ∷ cs)
-      later (inl same) = inl (ap (λ ms. record { index = i; answer = answer_at o samples k p x } ∷ ms) same.0, ap (λ ls. (true && is_none x) ∷ ls) same.1)
+      later (inl same) = inl (
+        ap (λ ms. record { index = i; answer = answer_at o samples k p x } ∷ ms) same.0,
+        ap
+            (λ ls. (true && is_none x) ∷ ls) same.1,
+      )
       later (inr parts) =
-          inr (parts-behind (model_lines (record { index = i; answer = answer_at o samples k p x })) (λ ts t. subst (λ n. OffersAre (i + 1) ps lives (drop n ts) os) (sym (length-model o samples k i p x)) t.1) parts)
+          inr (parts-behind (model_lines (record { index = i; answer = answer_at o samples k p x }))
+          (λ ts t. subst (λ n. OffersAre (i + 1) ps lives (drop n ts) os) (sym (length-model o samples k i p x)) t.1) parts)
 
       by : Fits x → Fits c → ModelsAlike (i + 1) ps lives os cs → (x ≡ c) ⊎ (x ≢ c) → ModelsAlike i (p ∷ ps) (true ∷ lives) (x ∷ os) (c ∷ cs)
       by fits fits' more (inl same) = subst (λ c. ModelsAlike i (p ∷ ps) (true ∷ lives) (x ∷ os) (c ∷ cs)) same (later more)
-      by fits fits' more (inr other) = inr (models-part i p ps lives x c os cs (omega (arith, few)) (All-head (λ (p : Plant). 1 ≤ p.states) p ps states) fits fits' other)
+      by fits fits' more (inr other) =
+          inr (models-part i p ps lives x c os cs (omega (arith, few)) (All-head (λ (p : Plant). 1 ≤ p.states) p ps states) fits fits' other)
 
   -- ---- the lines of a sample
 
@@ -148,7 +159,8 @@ module _ (o : Observer) (samples : List Sample) (k : ℕ) where
       ((lines_with ps lives os ≡ lines_with ps lives cs) × (live_after lives os ≡ live_after lives cs))
       ⊎ PartsAt (λ ts. OffersAre 0 ps lives (drop 1 ts) os) (lines_with ps lives os) (lines_with ps lives cs)
 
-  pub sample-alike : (ps : List Plant) (lives : List Bool) (os cs : List (Option Certificate)) → AreFew ps → IsAllowed ps lives os → IsAllowed ps lives cs
+  pub sample-alike : (ps : List Plant) (lives : List Bool) (os cs : List (Option Certificate)) → AreFew ps → IsAllowed ps lives os
+      → IsAllowed ps lives cs
       → SampleAlike ps lives os cs
   sample-alike ps lives os cs few h g = by (models-alike 0 ps lives os cs (omega (arith, few.few_models)) few.few_outputs few.some_state h g)
     where
@@ -174,7 +186,8 @@ module _ (o : Observer) (ps : List Plant) (samples : List Sample) where
   abbrev pub IsAllowedTo : Choice → ℕ → Type 0
   IsAllowedTo c n = (k : ℕ) → k < n → all_allowed any_justified o ps (lives_before c (length ps) k) (c k) samples k ≡ true
 
-  pub lines-more : (c : Choice) (n : ℕ) → samples_lines o ps samples c (suc n) ≡ samples_lines o ps samples c n ++ lines_with o samples n ps (lives_before c m n) (c n)
+  pub lines-more : (c : Choice) (n : ℕ) → samples_lines o ps samples c (suc n) ≡ samples_lines o ps samples c n ++ lines_with o samples n ps
+      (lives_before c m n) (c n)
   unfolding samples_lines
   lines-more c n = refl
 
@@ -224,7 +237,8 @@ module _ (o : Observer) (ps : List Plant) (samples : List Sample) where
             (parts-before (lines_with o samples n ps (lives_before c m n) (c n)) (lines_with o samples n ps (lives_before d m n) (d n)) parts))
 
     -- where the one's lines go on from the other's, they are the same, and so are the live models
-    pub front-alike : (n : ℕ) → IsAllowedTo c n → IsAllowedTo d n → (x y : List Line) → samples_lines o ps samples d n ++ x ≡ samples_lines o ps samples c n ++ y
+    pub front-alike : (n : ℕ) → IsAllowedTo c n → IsAllowedTo d n → (x y : List Line)
+        → samples_lines o ps samples d n ++ x ≡ samples_lines o ps samples c n ++ y
         → (samples_lines o ps samples c n ≡ samples_lines o ps samples d n) × (lives_before c m n ≡ lives_before d m n)
     front-alike n h g x y e = by (samples-alike n h g)
       where

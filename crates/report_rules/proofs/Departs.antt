@@ -37,8 +37,10 @@ less-one : (n : ℕ) → n ≡ n + 1 - 1
 less-one n = omega arith
 
 -- the bytes have the first lines of a justified report, and no justified report of which they have more
-module _ (w : Watch) (c : Choice) (allowed : IsJustified w c) (a b : List Line) (bytes v : List ℕ) (whole : report_of w c ≡ a ++ b) (is : bytes ≡ lines_text a ++ v)
-    (none : (c' : Choice) → IsJustified w c' → (lines more : List Line) → lines ++ more ≡ report_of w c' → length lines ≡ length a + 1 → (rest : List ℕ) → bytes ≢ lines_text lines ++ rest)
+module _ (w : Watch) (c : Choice) (allowed : IsJustified w c) (a b : List Line) (bytes v : List ℕ) (whole : report_of w c ≡ a ++ b)
+    (is : bytes ≡ lines_text a ++ v)
+    (none : (c' : Choice) → IsJustified w c' → (lines more : List Line) → lines ++ more ≡ report_of w c' → length lines ≡ length a + 1
+    → (rest : List ℕ) → bytes ≢ lines_text lines ++ rest)
     (not : ¬ Satisfies w bytes) where
   departs-by : DepartsAt w (length a + 1) bytes
   departs-by = record {
@@ -60,7 +62,8 @@ no-more : (xs ys : List Line) → xs ++ ys ≡ [] → (xs ≡ []) × (ys ≡ [])
 no-more [] ys e = (refl, e)
 no-more (x ∷ xs) ys e = absurd cc
 
-module _ (w : Watch) (few : AreFew w.plants) (c : Choice) (allowed : IsJustified w c) (a b : List Line) (bytes v : List ℕ) (whole : report_of w c ≡ a ++ b) (is : bytes ≡ lines_text a ++ v) where
+module _ (w : Watch) (few : AreFew w.plants) (c : Choice) (allowed : IsJustified w c) (a b : List Line) (bytes v : List ℕ)
+    (whole : report_of w c ≡ a ++ b) (is : bytes ≡ lines_text a ++ v) where
   -- a justified report goes on behind the same lines, and the bytes by its line
   record GoesOn (c' : Choice) : Type 0 where
     l : Line
@@ -69,25 +72,29 @@ module _ (w : Watch) (few : AreFew w.plants) (c : Choice) (allowed : IsJustified
     r : List ℕ
     goes : v ≡ put_text l ++ r
 
-  module _ (c' : Choice) (allowed' : IsJustified w c') (lines more : List Line) (front : lines ++ more ≡ report_of w c') (rest : List ℕ) (text : bytes ≡ lines_text lines ++ rest) where
+  module _ (c' : Choice) (allowed' : IsJustified w c') (lines more : List Line) (front : lines ++ more ≡ report_of w c') (rest : List ℕ)
+      (text : bytes ≡ lines_text lines ++ rest) where
     longer : (d : Line) → length a < length lines → GoesOn c'
     longer d many =
         let n = length a in
         let l = get_or lines n d in
         let over = drop (suc n) lines in
         let cut = cut-at lines n d many in
-        let are : report_of w c' ≡ take n lines ++ l ∷ (over ++ more) = sym front ∙ ap (λ ls. ls ++ more) cut ∙ append_assoc (take n lines) (l ∷ over) more in
+        let are : report_of w c' ≡ take n lines ++ l ∷ (over ++ more) =
+        sym front ∙ ap (λ ls. ls ++ more) cut ∙ append_assoc (take n lines) (l ∷ over) more in
         let text' : lines_text a ++ v ≡ lines_text (take n lines) ++ (put_text l ++ (lines_text over ++ rest)) =
         sym is ∙ text ∙ ap (λ ls. lines_text ls ++ rest) cut ∙ lines_text-past (take n lines) l over rest in
         let same : a ≡ take n lines =
-        fronts-agree zonotope_observer w few c c' allowed allowed' a b (take n lines) (l ∷ (over ++ more)) v (put_text l ++ (lines_text over ++ rest)) whole are
+        fronts-agree zonotope_observer w few c c' allowed allowed' a b (take n lines) (l ∷ (over ++ more)) v
+        (put_text l ++ (lines_text over ++ rest)) whole are
         (length-take-le n lines (omega (arith, many))) text' in
         record {
           l = l;
           others = over ++ more;
           are = are ∙ ap (λ ls. ls ++ l ∷ (over ++ more)) (sym same);
           r = lines_text over ++ rest;
-          goes = append_cancel_left (lines_text a) v (put_text l ++ (lines_text over ++ rest)) (text' ∙ ap (λ ls. lines_text ls ++ (put_text l ++ (lines_text over ++ rest))) (sym same));
+          goes = append_cancel_left (lines_text a) v (put_text l ++ (lines_text over ++ rest))
+              (text' ∙ ap (λ ls. lines_text ls ++ (put_text l ++ (lines_text over ++ rest))) (sym same));
         }
 
     -- a whole report of no more lines is this one
@@ -98,18 +105,25 @@ module _ (w : Watch) (few : AreFew w.plants) (c : Choice) (allowed : IsJustified
         let are : report_of w c ≡ take n a ++ (drop n a ++ b) = whole ∙ ap (λ ls. ls ++ b) cut ∙ append_assoc (take n a) (drop n a) b in
         let alone : report_of w c' ≡ lines = sym front ∙ ap (λ ls. lines ++ ls) none ∙ append-nil lines in
         let text' : lines_text (take n a) ++ (lines_text (drop n a) ++ v) ≡ lines_text lines ++ rest =
-        sym (append_assoc (lines_text (take n a)) (lines_text (drop n a)) v) ∙ ap (λ t. t ++ v) (sym (ap lines_text cut ∙ lines_text-append (take n a) (drop n a))) ∙ sym is ∙ text in
+        sym (append_assoc (lines_text (take n a)) (lines_text (drop n a)) v) ∙ ap (λ t. t ++ v)
+        (sym (ap lines_text cut ∙ lines_text-append (take n a) (drop n a))) ∙ sym is ∙ text in
         let same : take n a ≡ lines =
-        fronts-agree zonotope_observer w few c c' allowed allowed' (take n a) (drop n a ++ b) lines more (lines_text (drop n a) ++ v) rest are (sym front)
+        fronts-agree zonotope_observer w few c c' allowed allowed' (take n a) (drop n a ++ b) lines more
+        (lines_text (drop n a) ++ v) rest are (sym front)
         (sym (length-take-le n a few-lines)) text' in
-        let nothing = reports-end zonotope_observer w few c' c allowed' allowed (drop n a ++ b) (are ∙ ap (λ ls. ls ++ (drop n a ++ b)) (same ∙ sym alone)) in
+        let nothing = reports-end zonotope_observer w few c' c allowed' allowed (drop n a ++ b)
+        (are ∙ ap (λ ls. ls ++ (drop n a ++ b)) (same ∙ sym alone)) in
         let parts = no-more (drop n a) b nothing in
         (sym (cut ∙ ap (λ ls. take n a ++ ls) parts.0 ∙ append-nil (take n a) ∙ same), parts.1)
 
 -- the report goes on with a line, and the bytes by the line of no justified report that goes on there
-module _ (w : Watch) (few : AreFew w.plants) (c : Choice) (allowed : IsJustified w c) (a : List Line) (l : Line) (b : List Line) (bytes v : List ℕ) (whole : report_of w c ≡ a ++ l ∷ b)
-    (is : bytes ≡ lines_text a ++ v) (differs : (c' : Choice) → IsJustified w c' → (l' : Line) (b' : List Line) → report_of w c' ≡ a ++ l' ∷ b' → (r : List ℕ) → v ≢ put_text l' ++ r) where
-  no-longer : (c' : Choice) → IsJustified w c' → (lines more : List Line) → lines ++ more ≡ report_of w c' → length a < length lines → (rest : List ℕ) → bytes ≢ lines_text lines ++ rest
+module _ (w : Watch) (few : AreFew w.plants) (c : Choice) (allowed : IsJustified w c) (a : List Line) (l : Line) (b : List Line)
+    (bytes v : List ℕ) (whole : report_of w c ≡ a ++ l ∷ b)
+    (is : bytes ≡ lines_text a ++ v)
+    (differs : (c' : Choice) → IsJustified w c' → (l' : Line) (b' : List Line) → report_of w c' ≡ a ++ l' ∷ b' → (r : List ℕ)
+    → v ≢ put_text l' ++ r) where
+  no-longer : (c' : Choice) → IsJustified w c' → (lines more : List Line) → lines ++ more ≡ report_of w c' → length a < length lines
+      → (rest : List ℕ) → bytes ≢ lines_text lines ++ rest
   no-longer c' allowed' lines more front many rest text =
       let goes = longer w few c allowed a (l ∷ b) bytes v whole is c' allowed' lines more front rest text l many in
       differs c' allowed' goes.l goes.others goes.are goes.r goes.goes
@@ -125,27 +139,34 @@ module _ (w : Watch) (few : AreFew w.plants) (c : Choice) (allowed : IsJustified
 
   pub departs : DepartsAt w (length a + 1) bytes
   departs =
-      departs-by w c allowed a (l ∷ b) bytes v whole is (λ c' allowed' lines more front many. no-longer c' allowed' lines more front (omega (arith, many))) (not-by w.is_whole)
+      departs-by w c allowed a (l ∷ b) bytes v whole is
+      (λ c' allowed' lines more front many. no-longer c' allowed' lines more front (omega (arith, many))) (not-by w.is_whole)
     where
       not-by : (is_whole : Bool) → ¬ SatisfiesBy is_whole w bytes
       not-by true h = no-whole h.1.choice h.1.allowed h.0 h.1.is [] (h.2 ∙ sym (append-nil (lines_text h.0)))
       not-by false h = no-whole h.1.choice h.1.allowed h.0 h.1.is h.2 h.3
 
 -- the report ends, and the bytes go on
-pub departs-behind : (names : List (List ℕ)) (ps : List Plant) (samples : List Sample) → AreFew ps → (c : Choice) → IsJustified (watch names ps samples true) c
+pub departs-behind : (names : List (List ℕ)) (ps : List Plant) (samples : List Sample) → AreFew ps → (c : Choice) → IsJustified
+    (watch names ps samples true) c
     → (a : List Line) (bytes v : List ℕ)
-    → report_of (watch names ps samples true) c ≡ a → bytes ≡ lines_text a ++ v → v ≢ [] → DepartsAt (watch names ps samples true) (length a + 1) bytes
+    → report_of (watch names ps samples true) c ≡ a → bytes ≡ lines_text a ++ v → v ≢ [] → DepartsAt (watch names ps samples true)
+    (length a + 1) bytes
 departs-behind names ps samples few c allowed a bytes v whole is some =
-    departs-by (watch names ps samples true) c allowed a [] bytes v none-behind is (λ c' allowed' lines more front many. no-longer c' allowed' lines more front (omega (arith, many))) not-whole
+    departs-by (watch names ps samples true) c allowed a [] bytes v none-behind is
+    (λ c' allowed' lines more front many. no-longer c' allowed' lines more front (omega (arith, many))) not-whole
   where
     none-behind : report_of (watch names ps samples true) c ≡ a ++ []
     none-behind = whole ∙ sym (append-nil a)
 
-    no-longer : (c' : Choice) → IsJustified (watch names ps samples true) c' → (lines more : List Line) → lines ++ more ≡ report_of (watch names ps samples true) c' → length a < length lines
+    no-longer : (c' : Choice) → IsJustified (watch names ps samples true) c' → (lines more : List Line) → lines ++ more ≡ report_of
+        (watch names ps samples true) c' → length a < length lines
         → (rest : List ℕ) → bytes ≢ lines_text lines ++ rest
     no-longer c' allowed' lines more front many rest text =
-        let goes = longer (watch names ps samples true) few c allowed a [] bytes v none-behind is c' allowed' lines more front rest text (end 0) many in
-        let stuff = reports-end zonotope_observer (watch names ps samples true) few c c' allowed allowed' (goes.l ∷ goes.others) (goes.are ∙ ap (λ ls. ls ++ goes.l ∷ goes.others) (sym whole)) in
+        let goes = longer (watch names ps samples true) few c allowed a [] bytes v none-behind is c' allowed' lines more front rest text
+        (end 0) many in
+        let stuff = reports-end zonotope_observer (watch names ps samples true) few c c' allowed allowed' (goes.l ∷ goes.others)
+        (goes.are ∙ ap (λ ls. ls ++ goes.l ∷ goes.others) (sym whole)) in
         absurd cc
 
     not-whole : ¬ Satisfies (watch names ps samples true) bytes
@@ -166,8 +187,10 @@ departs-behind names ps samples few c allowed a bytes v whole is some =
 -- ---- in the head, which all reports have
 
 -- the line j of the head does not stand behind those before it
-module _ (names : List (List ℕ)) (ps : List Plant) (samples : List Sample) (is_whole : Bool) (j : ℕ) (d : Line) (bytes left : List ℕ) (within : j < length (head_lines names))
-    (is : bytes ≡ lines_text (take j (head_lines names)) ++ left) (differs : (r : List ℕ) → left ≢ put_text (get_or (head_lines names) j d) ++ r) where
+module _ (names : List (List ℕ)) (ps : List Plant) (samples : List Sample) (is_whole : Bool) (j : ℕ) (d : Line) (bytes left : List ℕ)
+    (within : j < length (head_lines names))
+    (is : bytes ≡ lines_text (take j (head_lines names)) ++ left)
+    (differs : (r : List ℕ) → left ≢ put_text (get_or (head_lines names) j d) ++ r) where
   abbrev head : List Line
   head = head_lines names
 
@@ -187,7 +210,8 @@ module _ (names : List (List ℕ)) (ps : List Plant) (samples : List Sample) (is
   few-lines : length (take j head) ≡ j
   few-lines = length-take-le j head (omega (arith, within))
 
-  no-head : (c : Choice) (lines more : List Line) → lines ++ more ≡ report_of of_head c → j < length lines → (rest : List ℕ) → bytes ≢ lines_text lines ++ rest
+  no-head : (c : Choice) (lines more : List Line) → lines ++ more ≡ report_of of_head c → j < length lines → (rest : List ℕ)
+      → bytes ≢ lines_text lines ++ rest
   no-head c lines more front many rest text =
       let next = get_or head j d in
       let other = get_or lines j d in
@@ -198,10 +222,12 @@ module _ (names : List (List ℕ)) (ps : List Plant) (samples : List Sample) (is
       sym (take-append-le j lines more (omega (arith, many))) ∙ ap (take j) all ∙ take-append-le j head (behind_head c) (omega (arith, within)) in
       let same : other ≡ next =
       sym (get_or_append_left lines more d j many) ∙ ap (λ ls. get_or ls j d) all ∙ get_or_append_left head (behind_head c) d j within in
-      let goes : bytes ≡ lines_text (take j lines) ++ (put_text other ++ (lines_text over ++ rest)) = text ∙ ap (λ ls. lines_text ls ++ rest) cut' ∙ lines_text-past (take j lines) other over rest in
+      let goes : bytes ≡ lines_text (take j lines) ++ (put_text other ++ (lines_text over ++ rest)) =
+      text ∙ ap (λ ls. lines_text ls ++ rest) cut' ∙ lines_text-past (take j lines) other over rest in
       differs (lines_text over ++ rest)
       (append_cancel_left (lines_text (take j head)) left (put_text next ++ (lines_text over ++ rest))
-      (sym is ∙ goes ∙ ap (λ ls. lines_text ls ++ (put_text other ++ (lines_text over ++ rest))) first ∙ ap (λ l. lines_text (take j head) ++ (put_text l ++ (lines_text over ++ rest))) same))
+      (sym is ∙ goes ∙ ap (λ ls. lines_text ls ++ (put_text other ++ (lines_text over ++ rest))) first ∙ ap
+      (λ l. lines_text (take j head) ++ (put_text l ++ (lines_text over ++ rest))) same))
 
   pub head-departs : DepartsAt (watch names ps samples is_whole) (j + 1) bytes
   head-departs =
@@ -211,7 +237,8 @@ module _ (names : List (List ℕ)) (ps : List Plant) (samples : List Sample) (is
       let whole : report_of of_head due ≡ take j head ++ rest =
       report-is due ∙ ap (λ ls. ls ++ behind_head due) cut ∙ append_assoc (take j head) (get_or head j d ∷ drop (suc j) head) (behind_head due) in
       subst (λ n. DepartsAt of_head (n + 1) bytes) few-lines
-      (departs-by of_head due allowed (take j head) rest bytes left whole is (λ c' allowed' lines more front many. no-head c' lines more front (omega (arith, many, few-lines))) (not-by is_whole))
+      (departs-by of_head due allowed (take j head) rest bytes left whole is
+      (λ c' allowed' lines more front many. no-head c' lines more front (omega (arith, many, few-lines))) (not-by is_whole))
     where
       long : (c : Choice) → j < length (report_of of_head c)
       long c = omega (arith, within, ap length (report-is c), length-append head (behind_head c))
@@ -225,7 +252,8 @@ module _ (names : List (List ℕ)) (ps : List Plant) (samples : List Sample) (is
 
 -- ---- at the end
 
-module _ (names : List (List ℕ)) (ps : List Plant) (samples : List Sample) (c : Choice) (bytes left : List ℕ) (replayed : Replayed names ps samples c bytes left) where
+module _ (names : List (List ℕ)) (ps : List Plant) (samples : List Sample) (c : Choice) (bytes left : List ℕ)
+    (replayed : Replayed names ps samples c bytes left) where
   abbrev so_far : List Line
   so_far = lines_so_far names ps samples c
 
@@ -253,13 +281,16 @@ module _ (names : List (List ℕ)) (ps : List Plant) (samples : List Sample) (c 
 
   module _ (few : AreFew ps) where
     -- what another justified report has behind these lines is the last line
-    end-alone : (c' : Choice) → IsJustified (watch names ps samples true) c' → (x : List Line) → report_of (watch names ps samples true) c' ≡ so_far ++ x → x ≡ end (length samples) ∷ []
+    end-alone : (c' : Choice) → IsJustified (watch names ps samples true) c' → (x : List Line) → report_of
+        (watch names ps samples true) c' ≡ so_far ++ x → x ≡ end (length samples) ∷ []
     end-alone c' allowed' x e =
         let n = length samples in
         let head = head_lines names in
         let lines = samples_lines zonotope_observer ps samples c n in
         let lines' = samples_lines zonotope_observer ps samples c' n in
-        let behind : lines' ++ end n ∷ [] ≡ lines ++ x = append_cancel_left head (lines' ++ end n ∷ []) (lines ++ x) (sym (append_assoc head lines' (end n ∷ [])) ∙ e ∙ append_assoc head lines x) in
+        let behind : lines' ++ end n ∷ [] ≡ lines ++ x =
+        append_cancel_left head (lines' ++ end n ∷ []) (lines ++ x)
+        (sym (append_assoc head lines' (end n ∷ [])) ∙ e ∙ append_assoc head lines x) in
         let same = (front-alike zonotope_observer ps samples few c c' n replayed.allowed allowed' (end n ∷ []) x behind).0 in
         append_cancel_left lines x (end n ∷ []) (sym behind ∙ ap (λ ls. ls ++ end n ∷ []) (sym same))
 
@@ -273,10 +304,12 @@ module _ (names : List (List ℕ)) (ps : List Plant) (samples : List Sample) (c 
         differs r (e ∙ ap (λ l. put_text l ++ r) same))
 
     -- bytes stand behind it
-    pub behind-departs : (v : List ℕ) → left ≡ put_text (end (length samples)) ++ v → v ≢ [] → DepartsAt (watch names ps samples true) (length so_far + 2) bytes
+    pub behind-departs : (v : List ℕ) → left ≡ put_text (end (length samples)) ++ v → v ≢ [] → DepartsAt (watch names ps samples true)
+        (length so_far + 2) bytes
     behind-departs v e some =
         let all = so_far ++ end (length samples) ∷ [] in
         let long : length all + 1 ≡ length so_far + 2 = omega (arith, length-append so_far (end (length samples) ∷ [])) in
         let is : bytes ≡ lines_text all ++ v =
         replayed.text ∙ ap (λ t. lines_text so_far ++ t) e ∙ sym (lines_text-past so_far (end (length samples)) [] v) in
-        subst (λ n. DepartsAt (watch names ps samples true) n bytes) long (departs-behind names ps samples few c replayed.allowed all bytes v (report-so_far true) is some)
+        subst (λ n. DepartsAt (watch names ps samples true) n bytes) long
+        (departs-behind names ps samples few c replayed.allowed all bytes v (report-so_far true) is some)

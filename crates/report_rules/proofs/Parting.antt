@@ -57,7 +57,8 @@ pub parts-like : {A : List (List ℕ) → Type 0} {S S' T T' : List Line} → S 
 parts-like {A} {S} {S'} {T} e e' p = subst (λ ls. PartsAt A ls S') (sym e) (subst (PartsAt A T) (sym e') p)
 
 -- behind the same lines, and before any
-pub parts-within : {A B : List (List ℕ) → Type 0} {S S' : List Line} (before x x' : List Line) → ((ts : List (List ℕ)) → B ts → A (drop (length before) ts))
+pub parts-within : {A B : List (List ℕ) → Type 0} {S S' : List Line} (before x x' : List Line)
+    → ((ts : List (List ℕ)) → B ts → A (drop (length before) ts))
     → PartsAt A S S' → PartsAt B (before ++ (S ++ x)) (before ++ (S' ++ x'))
 parts-within before x x' taken p = record {
   i = p.i;
@@ -77,14 +78,16 @@ parts-within before x x' taken p = record {
   is = ap (λ ls. before ++ (ls ++ x)) p.is ∙ grouped before p.common (p.l ∷ p.tail) x;
   is' = ap (λ ls. before ++ (ls ++ x')) p.is' ∙ grouped before p.common (p.l' ∷ p.tail') x';
   offered = λ ts t.
-      subst (λ us. IsOffer p.i us p.offer) (drop-drop (length p.common) (length before) ts ∙ ap (λ n. drop n ts) (sym (length-append before p.common)))
+      subst (λ us. IsOffer p.i us p.offer)
+      (drop-drop (length p.common) (length before) ts ∙ ap (λ n. drop n ts) (sym (length-append before p.common)))
       (p.offered (drop (length before) ts) (taken ts t));
 }
   where
     grouped : (a b e f : List Line) → a ++ ((b ++ e) ++ f) ≡ (a ++ b) ++ (e ++ f)
     grouped a b e f = simp append_assoc
 
-pub parts-behind : {A B : List (List ℕ) → Type 0} {S S' : List Line} (before : List Line) → ((ts : List (List ℕ)) → B ts → A (drop (length before) ts))
+pub parts-behind : {A B : List (List ℕ) → Type 0} {S S' : List Line} (before : List Line)
+    → ((ts : List (List ℕ)) → B ts → A (drop (length before) ts))
     → PartsAt A S S' → PartsAt B (before ++ S) (before ++ S')
 parts-behind {A} {B} {S} {S'} before taken p =
     parts-like (ap (λ ls. before ++ ls) (sym (append-nil S))) (ap (λ ls. before ++ ls) (sym (append-nil S'))) (parts-within before [] [] taken p)
@@ -103,13 +106,15 @@ module _ {A : List (List ℕ) → Type 0} {S S' : List Line} (p : PartsAt A S S'
   pub parted-no-front : (x y : List Line) → S' ++ x ≢ S ++ y
   parted-no-front x y e =
       let behind = append_cancel_left p.common (p.l' ∷ (p.tail' ++ x)) (p.l ∷ (p.tail ++ y))
-      (sym (ap (λ ls. ls ++ x) p.is' ∙ append_assoc p.common (p.l' ∷ p.tail') x) ∙ e ∙ ap (λ ls. ls ++ y) p.is ∙ append_assoc p.common (p.l ∷ p.tail) y) in
+      (sym (ap (λ ls. ls ++ x) p.is' ∙ append_assoc p.common (p.l' ∷ p.tail') x) ∙ e ∙ ap (λ ls. ls ++ y) p.is ∙ append_assoc p.common
+      (p.l ∷ p.tail) y) in
       not-same (sym (heads p.l' p.l (p.tail' ++ x) (p.tail ++ y) behind))
 
   -- they agree as far as their texts do
   pub parted-agree : AllAgree S S'
   parted-agree n r r' e =
-      ap (take n) p.is ∙ by p.common n (sym (ap (λ ls. lines_text (take n ls) ++ r) p.is) ∙ e ∙ ap (λ ls. lines_text (take n ls) ++ r') p.is') ∙ ap (take n) (sym p.is')
+      ap (take n) p.is ∙ by p.common n
+      (sym (ap (λ ls. lines_text (take n ls) ++ r) p.is) ∙ e ∙ ap (λ ls. lines_text (take n ls) ++ r') p.is') ∙ ap (take n) (sym p.is')
     where
       by : (common : List Line) (n : ℕ) → lines_text (take n (common ++ p.l ∷ p.tail)) ++ r ≡ lines_text (take n (common ++ p.l' ∷ p.tail')) ++ r'
           → take n (common ++ p.l ∷ p.tail) ≡ take n (common ++ p.l' ∷ p.tail')
@@ -121,13 +126,15 @@ module _ {A : List (List ℕ) → Type 0} {S S' : List Line} (p : PartsAt A S S'
       by (x ∷ xs) (suc n) e =
           let a = lines_text (take n (xs ++ p.l ∷ p.tail)) in
           let b = lines_text (take n (xs ++ p.l' ∷ p.tail')) in
-          ap (λ ls. x ∷ ls) (by xs n (append_cancel_left (put_text x) (a ++ r) (b ++ r') (sym (append_assoc (put_text x) a r) ∙ e ∙ append_assoc (put_text x) b r')))
+          ap (λ ls. x ∷ ls) (by xs n (append_cancel_left (put_text x) (a ++ r) (b ++ r')
+          (sym (append_assoc (put_text x) a r) ∙ e ∙ append_assoc (put_text x) b r')))
 
   -- where the other list goes on behind the first n lines of this one, it goes on alike, or the lists part there
   pub line-placed : (n : ℕ) (d x : Line) (xs : List Line) → S' ≡ take n S ++ x ∷ xs → (get_or S n d ≡ x) ⊎ ((take n S ≡ p.common) × (x ≡ p.l'))
   line-placed n d x xs e = back (by p.common n (sym p.is' ∙ e ∙ ap (λ ls. take n ls ++ x ∷ xs) p.is))
     where
-      back : (get_or (p.common ++ p.l ∷ p.tail) n d ≡ x) ⊎ ((take n (p.common ++ p.l ∷ p.tail) ≡ p.common) × (x ≡ p.l')) → (get_or S n d ≡ x) ⊎ ((take n S ≡ p.common) × (x ≡ p.l'))
+      back : (get_or (p.common ++ p.l ∷ p.tail) n d ≡ x) ⊎ ((take n (p.common ++ p.l ∷ p.tail) ≡ p.common) × (x ≡ p.l'))
+          → (get_or S n d ≡ x) ⊎ ((take n S ≡ p.common) × (x ≡ p.l'))
       back = subst (λ ls. (get_or ls n d ≡ x) ⊎ ((take n ls ≡ p.common) × (x ≡ p.l'))) (sym p.is)
 
       by : (common : List Line) (n : ℕ) → common ++ p.l' ∷ p.tail' ≡ take n (common ++ p.l ∷ p.tail) ++ x ∷ xs
@@ -155,17 +162,21 @@ pub cut-at : (ls : List Line) (j : ℕ) (d : Line) → j < length ls → ls ≡ 
 cut-at ls j d l = sym (take-append-drop j ls) ∙ ap (λ t. take j ls ++ t) (drop-cons ls j d l)
 
 -- what begins with the same lines goes on with the same line
-pub next-same : (begin more : List Line) (j : ℕ) (d : Line) → j < length begin → (x : Line) (xs : List Line) → begin ++ more ≡ take j begin ++ x ∷ xs → get_or begin j d ≡ x
+pub next-same : (begin more : List Line) (j : ℕ) (d : Line) → j < length begin → (x : Line) (xs : List Line)
+    → begin ++ more ≡ take j begin ++ x ∷ xs → get_or begin j d ≡ x
 next-same begin more j d l x xs e =
     heads (get_or begin j d) x (drop (suc j) begin ++ more) xs
     (append_cancel_left (take j begin) (get_or begin j d ∷ (drop (suc j) begin ++ more)) (x ∷ xs)
     (sym (ap (λ ls. ls ++ more) (cut-at begin j d l) ∙ append_assoc (take j begin) (get_or begin j d ∷ drop (suc j) begin) more) ∙ e))
 
-module _ (begin : List Line) (left : List ℕ) (ts : List (List ℕ)) (rest : List ℕ) (ranges : list_all is_in_range begin ≡ true) (short : list_all is_short_line ts ≡ true)
+module _ (begin : List Line) (left : List ℕ) (ts : List (List ℕ)) (rest : List ℕ) (ranges : list_all is_in_range begin ≡ true)
+    (short : list_all is_short_line ts ≡ true)
     (are : left ≡ with_feeds ts ++ rest) (enough : TakesEnough (length begin) ts rest) where
   -- where the bytes go on by a line of the other list, it is that of the first
-  pub next-line : {A : List (List ℕ) → Type 0} → A ts → (S' : List Line) → BeginsOrParts A begin S' → (j : ℕ) (d : Line) → j < length begin → (v : List ℕ)
-      → left ≡ lines_text (take j begin) ++ v → (x : Line) (xs : List Line) → S' ≡ take j begin ++ x ∷ xs → (r : List ℕ) → v ≡ put_text x ++ r → get_or begin j d ≡ x
+  pub next-line : {A : List (List ℕ) → Type 0} → A ts → (S' : List Line) → BeginsOrParts A begin S' → (j : ℕ) (d : Line) → j < length begin
+      → (v : List ℕ)
+      → left ≡ lines_text (take j begin) ++ v → (x : Line) (xs : List Line) → S' ≡ take j begin ++ x ∷ xs → (r : List ℕ)
+      → v ≡ put_text x ++ r → get_or begin j d ≡ x
   next-line taken S' (inl (more, is)) j d l v text x xs e r goes = next-same begin more j d l x xs (sym is ∙ e)
   next-line taken S' (inr p) j d l v text x xs e r goes = by (line-placed p j d x xs e)
     where
@@ -180,7 +191,8 @@ module _ (begin : List Line) (left : List ℕ) (ts : List (List ℕ)) (rest : Li
       by (inl same) = same
       by (inr there) =
           absurd (p.other (offer-read p.i p.few p.certificate p.fits' p.l' p.outcome' r p.offer p.common ts rest v
-          (all-common p.common (p.l ∷ p.tail) (ap (list_all is_in_range) (sym p.is) ∙ ranges)) short (sym are ∙ text ∙ ap (λ ls. lines_text ls ++ v) there.0)
+          (all-common p.common (p.l ∷ p.tail) (ap (list_all is_in_range) (sym p.is) ∙ ranges)) short
+          (sym are ∙ text ∙ ap (λ ls. lines_text ls ++ v) there.0)
           (p.offered ts taken) (enough-there enough) (goes ∙ ap (λ l. put_text l ++ r) there.1)))
 
 -- ---- certificates are the same or not

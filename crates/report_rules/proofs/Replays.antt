@@ -46,7 +46,8 @@ replayed-begin names ps bytes left e c = record {
 
 -- ---- one sample more
 
-module _ (names : List (List ℕ)) (ps : List Plant) (taken : List Sample) (c : Choice) (bytes left : List ℕ) (replayed : Replayed names ps taken c bytes left) (s : Sample) where
+module _ (names : List (List ℕ)) (ps : List Plant) (taken : List Sample) (c : Choice) (bytes left : List ℕ)
+    (replayed : Replayed names ps taken c bytes left) (s : Sample) where
   abbrev k : ℕ
   k = length taken
 
@@ -77,7 +78,8 @@ module _ (names : List (List ℕ)) (ps : List Plant) (taken : List Sample) (c : 
     pub replayed-lives : lives_before (chosen_at k os c) m (length all) ≡ live_after lives os
     unfolding lives_before
     replayed-lives =
-        ap (lives_before longer m) one-more ∙ ap (λ ls. live_after ls (longer k)) (lives-longer k (omega arith)) ∙ ap (live_after lives) (chosen-here k os c)
+        ap (lives_before longer m) one-more ∙ ap (λ ls. live_after ls (longer k)) (lives-longer k (omega arith)) ∙ ap (live_after lives)
+        (chosen-here k os c)
 
     -- the lines of the sample stand behind the others
     pub lines-longer : samples_lines zonotope_observer ps all longer (length all)
@@ -87,8 +89,10 @@ module _ (names : List (List ℕ)) (ps : List Plant) (taken : List Sample) (c : 
         ap (samples_lines zonotope_observer ps all longer) one-more
         ∙ ap (λ ls. ls ++ sample_lines (sample_answer zonotope_observer ps (lives_before longer m k) (longer k) all k))
         (lines-same taken (s ∷ []) ps longer k (omega arith) ∙ lines-alike ps taken longer c k (λ i h. chosen-before k os c i h))
-        ∙ ap (λ ls. samples_lines zonotope_observer ps taken c k ++ sample_lines (sample_answer zonotope_observer ps ls (longer k) all k)) (lives-longer k (omega arith))
-        ∙ ap (λ cs. samples_lines zonotope_observer ps taken c k ++ sample_lines (sample_answer zonotope_observer ps lives cs all k)) (chosen-here k os c)
+        ∙ ap (λ ls. samples_lines zonotope_observer ps taken c k ++ sample_lines (sample_answer zonotope_observer ps ls (longer k) all k))
+        (lives-longer k (omega arith))
+        ∙ ap (λ cs. samples_lines zonotope_observer ps taken c k ++ sample_lines (sample_answer zonotope_observer ps lives cs all k))
+        (chosen-here k os c)
 
     module _ (allowed : all_allowed any_justified zonotope_observer ps lives os all k ≡ true) where
       allowed-before : (j : ℕ) → j < k → all_allowed any_justified zonotope_observer ps (lives_before longer m j) (longer j) all j ≡ true
@@ -132,20 +136,28 @@ module _ (names : List (List ℕ)) (ps : List Plant) (taken : List Sample) (c : 
   abbrev lines_by : List (Option Certificate) → List Line
   lines_by cs = sample_lines (sample_answer zonotope_observer ps lives cs all k)
 
+  -- these are justified
+  abbrev IsAllowedHere : List (Option Certificate) → Type 0
+  IsAllowedHere cs = all_allowed any_justified zonotope_observer ps lives cs all k ≡ true
+
+  -- the lines of the first n samples
+  abbrev first_lines : List Sample → Choice → ℕ → List Line
+  first_lines samples d n = samples_lines zonotope_observer ps samples d n
+
   module _ (more : List Sample) where
     abbrev whole : List Sample
     whole = all ++ more
 
     -- the lines of some samples begin those of more
-    lines-begin : (d : Choice) (n extra : ℕ) → (others : List Line) × (samples_lines zonotope_observer ps whole d (n + extra) ≡ samples_lines zonotope_observer ps whole d n ++ others)
-    lines-begin d n zero = let e : n + 0 ≡ n = omega arith in ([], ap (samples_lines zonotope_observer ps whole d) e ∙ sym (append-nil (samples_lines zonotope_observer ps whole d n)))
+    lines-begin : (d : Choice) (n extra : ℕ) → (others : List Line) × (first_lines whole d (n + extra) ≡ first_lines whole d n ++ others)
+    lines-begin d n zero = let e : n + 0 ≡ n = omega arith in ([], ap (first_lines whole d) e ∙ sym (append-nil (first_lines whole d n)))
     lines-begin d n (suc extra) =
         let before = lines-begin d n extra in
         let lines = sample_lines (sample_answer zonotope_observer ps (lives_before d m (n + extra)) (d (n + extra)) whole (n + extra)) in
         let e : n + suc extra ≡ suc (n + extra) = omega arith in (
           before.0 ++ lines,
-          ap (samples_lines zonotope_observer ps whole d) e ∙ lines-more zonotope_observer ps whole d (n + extra) ∙ ap (λ ls. ls ++ lines) before.1
-              ∙ append_assoc (samples_lines zonotope_observer ps whole d n) before.0 lines,
+          ap (first_lines whole d) e ∙ lines-more zonotope_observer ps whole d (n + extra) ∙ ap (λ ls. ls ++ lines) before.1
+              ∙ append_assoc (first_lines whole d n) before.0 lines,
         )
 
     split-whole : whole ≡ taken ++ s ∷ more
@@ -163,7 +175,7 @@ module _ (names : List (List ℕ)) (ps : List Plant) (taken : List Sample) (c : 
 
       -- ---- a justified report with certificates for the sample
 
-      module _ (os : List (Option Certificate)) (allowed : all_allowed any_justified zonotope_observer ps lives os all k ≡ true) where
+      module _ (os : List (Option Certificate)) (allowed : IsAllowedHere os) where
         abbrev kept : Choice
         kept = extended ps whole (longer os) (length all)
 
@@ -173,7 +185,7 @@ module _ (names : List (List ℕ)) (ps : List Plant) (taken : List Sample) (c : 
         kept-justified : IsJustified w kept
         kept-justified j l = extended-allowed ps whole (longer os) (length all) allowed-whole j
 
-        kept-lines : samples_lines zonotope_observer ps whole kept (length all) ≡ samples_lines zonotope_observer ps taken c k ++ lines_by os
+        kept-lines : first_lines whole kept (length all) ≡ first_lines taken c k ++ lines_by os
         kept-lines =
             extended-lines ps whole (longer os) (length all) allowed-whole
             ∙ lines-same all more ps (longer os) (length all) (omega arith) ∙ lines-longer os
@@ -183,10 +195,10 @@ module _ (names : List (List ℕ)) (ps : List Plant) (taken : List Sample) (c : 
         kept-report =
             let rest = lines-begin kept (length all) (length more) in
             let head = head_lines names in
-            let lines = samples_lines zonotope_observer ps taken c k in
+            let lines = first_lines taken c k in
             let many : length whole ≡ length all + length more = length-append all more in (
               rest.0 ++ last,
-              ap (λ n. head ++ samples_lines zonotope_observer ps whole kept n ++ last) many
+              ap (λ n. head ++ first_lines whole kept n ++ last) many
                   ∙ ap (λ ls. head ++ ls ++ last) (rest.1 ∙ ap (λ ls. ls ++ rest.0) kept-lines)
                   ∙ grouped head lines (lines_by os) rest.0 last,
             )
@@ -204,21 +216,22 @@ module _ (names : List (List ℕ)) (ps : List Plant) (taken : List Sample) (c : 
         lives' = lives_before c' m k
 
         -- its lines, by those of the first samples, of this one, and of the others
-        split-lines : samples_lines zonotope_observer ps whole c' k ++ (sample_lines (sample_answer zonotope_observer ps lives' (c' k) whole k) ++ others)
-            ≡ samples_lines zonotope_observer ps whole c k ++ x
+        split-lines : first_lines whole c' k ++ (sample_lines (sample_answer zonotope_observer ps lives' (c' k) whole k) ++ others)
+            ≡ first_lines whole c k ++ x
         split-lines =
             let rest = lines-begin c' (k + 1) (length more) in
             let head = head_lines names in
-            let lines = samples_lines zonotope_observer ps whole c' k in
+            let lines = first_lines whole c' k in
             let here = sample_lines (sample_answer zonotope_observer ps lives' (c' k) whole k) in
             let next : k + 1 ≡ suc k = omega arith in
-            let all-lines : samples_lines zonotope_observer ps whole c' (length whole) ≡ (lines ++ here) ++ rest.0 =
-            ap (samples_lines zonotope_observer ps whole c') many-samples ∙ rest.1
-            ∙ ap (λ ls. ls ++ rest.0) (ap (samples_lines zonotope_observer ps whole c') next ∙ lines-more zonotope_observer ps whole c' k) in
-            let same : samples_lines zonotope_observer ps taken c k ≡ samples_lines zonotope_observer ps whole c k =
-            sym (ap (λ t. samples_lines zonotope_observer ps t c k) split-whole ∙ lines-same taken (s ∷ more) ps c k (omega arith)) in
-            append_cancel_left head (lines ++ (here ++ (rest.0 ++ last))) (samples_lines zonotope_observer ps whole c k ++ x)
-            (sym (ap (λ ls. head ++ ls ++ last) all-lines ∙ grouped head lines here rest.0 last) ∙ is ∙ append_assoc head (samples_lines zonotope_observer ps taken c k) x ∙ ap (λ ls. head ++ (ls ++ x)) same)
+            let all-lines : first_lines whole c' (length whole) ≡ (lines ++ here) ++ rest.0 =
+            ap (first_lines whole c') many-samples ∙ rest.1
+            ∙ ap (λ ls. ls ++ rest.0) (ap (first_lines whole c') next ∙ lines-more zonotope_observer ps whole c' k) in
+            let same : first_lines taken c k ≡ first_lines whole c k =
+            sym (ap (λ t. first_lines t c k) split-whole ∙ lines-same taken (s ∷ more) ps c k (omega arith)) in
+            append_cancel_left head (lines ++ (here ++ (rest.0 ++ last))) (first_lines whole c k ++ x)
+            (sym (ap (λ ls. head ++ ls ++ last) all-lines ∙ grouped head lines here rest.0 last) ∙ is ∙ append_assoc head
+            (first_lines taken c k) x ∙ ap (λ ls. head ++ (ls ++ x)) same)
           where
             grouped : (a b e f g : List Line) → a ++ ((b ++ e) ++ f) ++ g ≡ a ++ (b ++ (e ++ (f ++ g)))
             grouped a b e f g = simp append_assoc
@@ -229,7 +242,7 @@ module _ (names : List (List ℕ)) (ps : List Plant) (taken : List Sample) (c : 
             ∙ all_allowed-same taken (s ∷ more) any_justified ps (lives_before c m j) (c j) j l ∙ replayed.allowed j l
 
         -- the same lines come first, so the same models are live
-        same-front : (samples_lines zonotope_observer ps whole c k ≡ samples_lines zonotope_observer ps whole c' k) × (lives ≡ lives')
+        same-front : (first_lines whole c k ≡ first_lines whole c' k) × (lives ≡ lives')
         same-front =
             front-alike zonotope_observer ps whole few c c' k allowed-first (λ j l. justified j (omega (arith, l, many-samples)))
             (sample_lines (sample_answer zonotope_observer ps lives' (c' k) whole k) ++ others) x split-lines
@@ -238,17 +251,19 @@ module _ (names : List (List ℕ)) (ps : List Plant) (taken : List Sample) (c : 
         within-all = omega (arith, one-more)
 
         -- so it has a justified list of certificates for the sample, and its lines with them
-        pub other-allowed : all_allowed any_justified zonotope_observer ps lives (c' k) all k ≡ true
+        pub other-allowed : IsAllowedHere (c' k)
         other-allowed =
-            sym (all_allowed-same all more any_justified ps lives (c' k) k within-all) ∙ ap (λ lives. all_allowed any_justified zonotope_observer ps lives (c' k) whole k) same-front.1
+            sym (all_allowed-same all more any_justified ps lives (c' k) k within-all) ∙ ap
+            (λ lives. all_allowed any_justified zonotope_observer ps lives (c' k) whole k) same-front.1
             ∙ justified k (omega (arith, many-samples))
 
         pub other-lines : (others : List Line) × (lines_by (c' k) ++ others ≡ x)
         other-lines =
-            let lines = samples_lines zonotope_observer ps whole c k in
+            let lines = first_lines whole c k in
             let here = sample_lines (sample_answer zonotope_observer ps lives' (c' k) whole k) in
             let same : lines_by (c' k) ≡ here =
-            ap sample_lines (sym (sample_answer-same all more ps lives (c' k) k within-all) ∙ ap (λ lives. sample_answer zonotope_observer ps lives (c' k) whole k) same-front.1) in (
+            ap sample_lines (sym (sample_answer-same all more ps lives (c' k) k within-all) ∙ ap
+            (λ lives. sample_answer zonotope_observer ps lives (c' k) whole k) same-front.1) in (
               others,
               append_cancel_left lines (lines_by (c' k) ++ others) x
                   (ap (λ ls. lines ++ (ls ++ others)) same ∙ ap (λ ls. ls ++ (here ++ others)) same-front.0 ∙ split-lines),
@@ -256,12 +271,12 @@ module _ (names : List (List ℕ)) (ps : List Plant) (taken : List Sample) (c : 
 
       -- ---- where the bytes depart
 
-      module _ (few : AreFew ps) (os : List (Option Certificate)) (allowed : all_allowed any_justified zonotope_observer ps lives os all k ≡ true) where
+      module _ (few : AreFew ps) (os : List (Option Certificate)) (allowed : IsAllowedHere os) where
         -- justified certificates have these lines and go on with one; whatever justified ones do, the bytes do not go on by their line
         pub line-departs : (begin : List Line) (l : Line) (tail : List Line) (v : List ℕ)
-            → sample_lines (sample_answer zonotope_observer ps lives os all k) ≡ begin ++ l ∷ tail → left ≡ lines_text begin ++ v
-            → ((cs : List (Option Certificate)) → all_allowed any_justified zonotope_observer ps lives cs all k ≡ true → (others : List Line) (l' : Line) (b' : List Line)
-            → sample_lines (sample_answer zonotope_observer ps lives cs all k) ++ others ≡ begin ++ l' ∷ b' → (r : List ℕ) → v ≢ put_text l' ++ r)
+            → lines_by os ≡ begin ++ l ∷ tail → left ≡ lines_text begin ++ v
+            → ((cs : List (Option Certificate)) → IsAllowedHere cs → (others : List Line) (l' : Line) (b' : List Line)
+            → lines_by cs ++ others ≡ begin ++ l' ∷ b' → (r : List ℕ) → v ≢ put_text l' ++ r)
             → DepartsAt (watch names ps (all ++ more) is_whole) (length front + length begin + 1) bytes
         line-departs begin l tail v is e differs =
             let report = kept-report os allowed in
@@ -272,7 +287,8 @@ module _ (names : List (List ℕ)) (ps : List Plant) (taken : List Sample) (c : 
             ∙ ap (λ t. t ++ v) (sym (lines_text-append front begin)) in
             let many : length (front ++ begin) + 1 ≡ length front + length begin + 1 = omega (arith, length-append front begin) in
             subst (λ n. DepartsAt w n bytes) many
-            (departs w few (kept os allowed) (kept-justified os allowed) (front ++ begin) l (tail ++ report.0) bytes v at text (λ c' justified l' b' is' r goes.
+            (departs w few (kept os allowed) (kept-justified os allowed) (front ++ begin) l (tail ++ report.0) bytes v at text
+            (λ c' justified l' b' is' r goes.
             let there : report_of w c' ≡ front ++ (begin ++ l' ∷ b') = is' ∙ append_assoc front begin (l' ∷ b') in
             let lines = other-lines few c' justified (begin ++ l' ∷ b') there in
             differs (c' k) (other-allowed few c' justified (begin ++ l' ∷ b') there) lines.0 l' b' lines.1 r goes))
@@ -280,37 +296,42 @@ module _ (names : List (List ℕ)) (ps : List Plant) (taken : List Sample) (c : 
             grouped : (a b e f : List Line) → a ++ ((b ++ e) ++ f) ≡ (a ++ b) ++ (e ++ f)
             grouped a b e f = simp append_assoc
 
-        module _ (begin tail : List Line) (is : sample_lines (sample_answer zonotope_observer ps lives os all k) ≡ begin ++ tail) (ranges : list_all is_in_range begin ≡ true)
-            (ts : List (List ℕ)) (rest : List ℕ) (short : list_all is_short_line ts ≡ true) (are : left ≡ with_feeds ts ++ rest) (enough : TakesEnough (length begin) ts rest) where
+        module _ (begin tail : List Line) (is : lines_by os ≡ begin ++ tail) (ranges : list_all is_in_range begin ≡ true)
+            (ts : List (List ℕ)) (rest : List ℕ) (short : list_all is_short_line ts ≡ true) (are : left ≡ with_feeds ts ++ rest)
+            (enough : TakesEnough (length begin) ts rest) where
           -- lines that begin those of the sample, from which those of others part at an offer that was taken, and line j does not
           -- stand behind those before it
           pub begin-departs : {A : List (List ℕ) → Type 0} → A ts
-              → ((cs : List (Option Certificate)) → all_allowed any_justified zonotope_observer ps lives cs all k ≡ true → (others : List Line)
-              → BeginsOrParts A begin (sample_lines (sample_answer zonotope_observer ps lives cs all k) ++ others))
-              → (j : ℕ) (d : Line) (v : List ℕ) → j < length begin → left ≡ lines_text (take j begin) ++ v → ((r : List ℕ) → v ≢ put_text (get_or begin j d) ++ r)
+              → ((cs : List (Option Certificate)) → IsAllowedHere cs → (others : List Line)
+              → BeginsOrParts A begin (lines_by cs ++ others))
+              → (j : ℕ) (d : Line) (v : List ℕ) → j < length begin → left ≡ lines_text (take j begin) ++ v
+              → ((r : List ℕ) → v ≢ put_text (get_or begin j d) ++ r)
               → DepartsAt (watch names ps (all ++ more) is_whole) (length front + j + 1) bytes
           begin-departs was-taken parts j d v l e differs =
               let lines : lines_by os ≡ take j begin ++ get_or begin j d ∷ (drop (suc j) begin ++ tail) =
               is ∙ ap (λ t. t ++ tail) (cut-at begin j d l) ∙ append_assoc (take j begin) (get_or begin j d ∷ drop (suc j) begin) tail in
               subst (λ n. DepartsAt w (length front + n + 1) bytes) (length-take-le j begin (omega (arith, l)))
               (line-departs (take j begin) (get_or begin j d) (drop (suc j) begin ++ tail) v lines e (λ cs allowed' others l' b' is' r goes.
-              let same = next-line begin left ts rest ranges short are enough was-taken (lines_by cs ++ others) (parts cs allowed' others) j d l v e l' b' is' r goes in
+              let same = next-line begin left ts rest ranges short are enough was-taken (lines_by cs ++ others)
+              (parts cs allowed' others) j d l v e l' b' is' r goes in
               differs r (goes ∙ ap (λ l. put_text l ++ r) (sym same))))
 
         -- the lines of the sample with the offers, which are justified, and line j does not stand behind those before it
-        pub sample-departs : list_all is_in_range (sample_lines (sample_answer zonotope_observer ps lives os all k)) ≡ true → (ts : List (List ℕ)) (rest : List ℕ)
-            → Takes ps lives left ts rest os → TakesEnough (length (sample_lines (sample_answer zonotope_observer ps lives os all k))) ts rest
-            → (j : ℕ) (d : Line) (v : List ℕ) → j < length (sample_lines (sample_answer zonotope_observer ps lives os all k))
-            → left ≡ lines_text (take j (sample_lines (sample_answer zonotope_observer ps lives os all k))) ++ v
-            → ((r : List ℕ) → v ≢ put_text (get_or (sample_lines (sample_answer zonotope_observer ps lives os all k)) j d) ++ r)
+        pub sample-departs : list_all is_in_range (lines_by os) ≡ true → (ts : List (List ℕ)) (rest : List ℕ)
+            → Takes ps lives left ts rest os → TakesEnough (length (lines_by os)) ts rest
+            → (j : ℕ) (d : Line) (v : List ℕ) → j < length (lines_by os)
+            → left ≡ lines_text (take j (lines_by os)) ++ v
+            → ((r : List ℕ) → v ≢ put_text (get_or (lines_by os) j d) ++ r)
             → DepartsAt (watch names ps (all ++ more) is_whole) (length front + j + 1) bytes
         sample-departs ranges ts rest takes enough j d v l e differs =
-            begin-departs (lines_by os) [] (sym (append-nil (lines_by os))) ranges ts rest takes.short takes.are enough takes.offers alike j d v l e differs
+            begin-departs (lines_by os) []
+            (sym (append-nil (lines_by os))) ranges ts rest takes.short takes.are enough takes.offers alike j d v l e differs
           where
-            alike : (cs : List (Option Certificate)) → all_allowed any_justified zonotope_observer ps lives cs all k ≡ true → (others : List Line)
+            alike : (cs : List (Option Certificate)) → IsAllowedHere cs → (others : List Line)
                 → BeginsOrParts (λ ts. OffersAre 0 ps lives (drop 1 ts) os) (lines_by os) (lines_by cs ++ others)
             alike cs allowed' others = by (sample-alike zonotope_observer all k ps lives os cs few allowed allowed')
               where
-                by : SampleAlike zonotope_observer all k ps lives os cs → BeginsOrParts (λ ts. OffersAre 0 ps lives (drop 1 ts) os) (lines_by os) (lines_by cs ++ others)
+                by : SampleAlike zonotope_observer all k ps lives os cs → BeginsOrParts (λ ts. OffersAre 0 ps lives (drop 1 ts) os)
+                    (lines_by os) (lines_by cs ++ others)
                 by (inl same) = inl (others, ap (λ ls. ls ++ others) (sym same.0))
                 by (inr parts) = inr (parts-like (sym (append-nil (lines_by os))) refl (parts-before [] others parts))
