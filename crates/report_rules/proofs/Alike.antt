@@ -135,11 +135,8 @@ module _ (o : Observer) (samples : List Sample) (k : ℕ) where
       (same-or-other x c)
     where
       later : ModelsAlike (i + 1) ps lives os cs → ModelsAlike i (p ∷ ps) (true ∷ lives) (x ∷ os) (x ∷ cs)
-      later (inl same) = inl (
-        ap (λ ms. record { index = i; answer = answer_at o samples k p x } ∷ ms) same.0,
-        ap
-            (λ ls. (true && is_none x) ∷ ls) same.1,
-      )
+      later (inl same) =
+          inl (ap (λ ms. record { index = i; answer = answer_at o samples k p x } ∷ ms) same.0, ap (λ ls. (true && is_none x) ∷ ls) same.1)
       later (inr parts) =
           inr (parts-behind (model_lines (record { index = i; answer = answer_at o samples k p x }))
           (λ ts t. subst (λ n. OffersAre (i + 1) ps lives (drop n ts) os) (sym (length-model o samples k i p x)) t.1) parts)

@@ -226,8 +226,8 @@ module _ (names : List (List ℕ)) (ps : List Plant) (samples : List Sample) (is
       text ∙ ap (λ ls. lines_text ls ++ rest) cut' ∙ lines_text-past (take j lines) other over rest in
       differs (lines_text over ++ rest)
       (append_cancel_left (lines_text (take j head)) left (put_text next ++ (lines_text over ++ rest))
-      (sym is ∙ goes ∙ ap (λ ls. lines_text ls ++ (put_text other ++ (lines_text over ++ rest))) first ∙ ap
-      (λ l. lines_text (take j head) ++ (put_text l ++ (lines_text over ++ rest))) same))
+      (sym is ∙ goes ∙ ap (λ ls. lines_text ls ++ (put_text other ++ (lines_text over ++ rest))) first
+      ∙ ap (λ l. lines_text (take j head) ++ (put_text l ++ (lines_text over ++ rest))) same))
 
   pub head-departs : DepartsAt (watch names ps samples is_whole) (j + 1) bytes
   head-departs =

@@ -1,5 +1,5 @@
 -- Where the bytes depart at a model whose offer is not justified.
-use Rattle.std.proofs.Common.{◌≡◌, ◌≢◌, ◌⊎◌, inl, inr, ℕ, ◌+◌, ◌<◌, ◌≤◌, Bool, true, false, List, [], ◌∷◌, ◌++◌, length, take, drop, flat_map, get_or, Option, refl, sym, ap, ◌∙◌, arith, subst, append_assoc, length-append}
+use Rattle.std.proofs.Common.{◌≡◌, ◌≢◌, ◌⊎◌, inl, inr, ℕ, ◌+◌, ◌<◌, ◌≤◌, Bool, true, List, [], ◌∷◌, ◌++◌, length, take, drop, flat_map, get_or, Option, sym, ap, ◌∙◌, arith, subst, append_assoc, length-append}
 use Rattle.std.specs.List.{All, list_all}
 use Rattle.std.proofs.lemmas.List.{append-nil, append_cancel_left, drop-drop, get_or_append_left}
 use Rattle.std.proofs.lemmas.Grind.{flat_map-append}
@@ -86,12 +86,13 @@ module _ (names : List (List ℕ)) (ps : List Plant) (taken : List Sample) (c : 
     answers-are : answers_from zonotope_observer 0 ps lives (cs ++ cert ∷ above) all k
         ≡ answers_below cs ++ here ∷ answers_above
     answers-are =
-        let behind = λ (j : ℕ). record { index = j; answer = answer_at zonotope_observer all k plant cert } ∷ answers_from zonotope_observer
-        (j + 1) refuses.plants_above refuses.lives_above above all k in
+        let behind = λ (j : ℕ). record { index = j; answer = answer_at zonotope_observer all k plant cert }
+        ∷ answers_from zonotope_observer (j + 1) refuses.plants_above refuses.lives_above above all k in
         ap (λ qs. answers_from zonotope_observer 0 qs lives (cs ++ cert ∷ above) all k) refuses.plants_are
         ∙ ap (λ ls. answers_from zonotope_observer 0 (refuses.plants_below ++ plant ∷ refuses.plants_above) ls
         (cs ++ cert ∷ above) all k) refuses.lives_are
-        ∙ answers-placed zonotope_observer all k plant refuses.plants_above refuses.lives_above cert above 0 refuses.plants_below refuses.lives_below cs refuses.as_many_lives many
+        ∙ answers-placed zonotope_observer all k plant refuses.plants_above refuses.lives_above cert above
+        0 refuses.plants_below refuses.lives_below cs refuses.as_many_lives many
         ∙ ap (λ j. answers_below cs ++ behind j) model-place
 
     abbrev stay : List Bool
@@ -140,23 +141,16 @@ module _ (names : List (List ℕ)) (ps : List Plant) (taken : List Sample) (c : 
       let lives_are = ap length refuses.lives_are in
       let plants_are = ap length refuses.plants_are in
       let below = refuses.as_many_lives in
-      omega (
-        arith,
-        same,
-        lives_are,
-        plants_are,
-        below,
-        length-append refuses.lives_below
-            (true ∷ refuses.lives_above),
-        length-append refuses.plants_below (plant ∷ refuses.plants_above),
-      )
+      let lives_split = length-append refuses.lives_below (true ∷ refuses.lives_above) in
+      let plants_split = length-append refuses.plants_below (plant ∷ refuses.plants_above) in
+      omega (arith, same, lives_are, plants_are, below, lives_split, plants_split)
 
   -- the offers below and what is due from it on are justified
   due_offers-allowed : IsAllowedHere due_offers
   due_offers-allowed =
       ap (λ qs. all_allowed any_justified zonotope_observer qs lives due_offers all k) refuses.plants_are
-      ∙ ap (λ ls. all_allowed any_justified zonotope_observer
-      (refuses.plants_below ++ plant ∷ refuses.plants_above) ls due_offers all k) refuses.lives_are
+      ∙ ap (λ ls. all_allowed any_justified zonotope_observer (refuses.plants_below ++ plant ∷ refuses.plants_above) ls due_offers all k)
+      refuses.lives_are
       ∙ allowed-placed zonotope_observer all k plant refuses.plants_above refuses.lives_above (certificate_at zonotope_observer plant all k)
       (certificates_at zonotope_observer refuses.plants_above all k)
       refuses.plants_below refuses.lives_below refuses.offers_below refuses.justified_below (certificate-allowed all k plant)
@@ -194,8 +188,8 @@ module _ (names : List (List ℕ)) (ps : List Plant) (taken : List Sample) (c : 
       offer-behind : IsOffer refusal.model (drop (length front) ts) refusal.offered
       offer-behind =
           let below = lines_below refuses.offers_below in
-          let placed = offer-placed zonotope_observer all k plant refuses.plants_above refuses.lives_above refusal.offered refuses.offers_above 0 refuses.plants_below refuses.lives_below refuses.offers_below (drop 1 ts)
-          refuses.as_many_lives many-offers offers-are in
+          let placed = offer-placed zonotope_observer all k plant refuses.plants_above refuses.lives_above refusal.offered refuses.offers_above
+          0 refuses.plants_below refuses.lives_below refuses.offers_below (drop 1 ts) refuses.as_many_lives many-offers offers-are in
           let same : length below ≡ length (flat_map model_lines refusal.before) =
           ap (λ rs. length (flat_map model_lines rs)) (sym refuses.before_are) in
           let outs : length (pred_lines refusal.model refusal.predicted) ≡ plant.outputs =
@@ -232,10 +226,11 @@ module _ (names : List (List ℕ)) (ps : List Plant) (taken : List Sample) (c : 
           refuses.justified_below parts.below_allowed)
         where
           parts : AllowedParts zonotope_observer all k plant refuses.plants_below refuses.lives_below cs
-          parts = allowed-parts zonotope_observer all k plant refuses.plants_above refuses.lives_above refuses.plants_below refuses.lives_below cs refuses.as_many_lives
+          parts = allowed-parts zonotope_observer all k plant refuses.plants_above refuses.lives_above
+              refuses.plants_below refuses.lives_below cs refuses.as_many_lives
               (sym (ap (λ qs. all_allowed any_justified zonotope_observer qs lives cs all k) refuses.plants_are
-              ∙ ap (λ ls. all_allowed any_justified zonotope_observer
-              (refuses.plants_below ++ plant ∷ refuses.plants_above) ls cs all k) refuses.lives_are) ∙ allowed)
+              ∙ ap (λ ls. all_allowed any_justified zonotope_observer (refuses.plants_below ++ plant ∷ refuses.plants_above) ls cs all k)
+              refuses.lives_are) ∙ allowed)
 
           many : length parts.cs_below ≡ length refuses.plants_below
           many = (length-allowed zonotope_observer all k refuses.plants_below refuses.lives_below parts.cs_below parts.below_allowed).1
@@ -277,9 +272,8 @@ module _ (names : List (List ℕ)) (ps : List Plant) (taken : List Sample) (c : 
             (sym refuses.before_are)
 
         -- line j of these does not stand behind those before it
-        pub refused_lines-depart : TakesEnough (length (refused_lines k refusal)) ts rest → (j : ℕ) (d : Line) (v : List ℕ) → j < length
-            (refused_lines k refusal)
-            → left ≡ lines_text (take j (refused_lines k refusal)) ++ v → ((r : List ℕ) → v ≢ put_text (get_or (refused_lines k refusal) j d) ++ r)
+        pub refused_lines-depart : TakesEnough (length (refused_lines k refusal)) ts rest → (j : ℕ) (d : Line) (v : List ℕ)
+            → j < length (refused_lines k refusal) → left ≡ lines_text (take j (refused_lines k refusal)) ++ v → ((r : List ℕ) → v ≢ put_text (get_or (refused_lines k refusal) j d) ++ r)
             → DepartsAt (watch names ps (all ++ more) is_whole) (length (lines_so_far names ps taken c) + j + 1) bytes
         refused_lines-depart enough j d v l e differs =
             begin-departs names ps taken c bytes left replayed s more is_whole few due_offers due_offers-allowed front
@@ -287,8 +281,8 @@ module _ (names : List (List ℕ)) (ps : List Plant) (taken : List Sample) (c : 
             takes.short takes.are enough below-taken alike j d v l e differs
           where
             below-taken : BelowTaken ts
-            below-taken = offers-front zonotope_observer all k plant refuses.plants_above refuses.lives_above refusal.offered refuses.offers_above 0 refuses.plants_below refuses.lives_below refuses.offers_below (drop 1 ts)
-                refuses.as_many_lives many-offers offers-are
+            below-taken = offers-front zonotope_observer all k plant refuses.plants_above refuses.lives_above refusal.offered refuses.offers_above
+                0 refuses.plants_below refuses.lives_below refuses.offers_below (drop 1 ts) refuses.as_many_lives many-offers offers-are
 
             alike : (cs : List (Option Certificate)) → IsAllowedHere cs → (others : List Line)
                 → BeginsOrParts BelowTaken front (lines_by cs ++ others)

@@ -253,8 +253,8 @@ module _ (names : List (List ℕ)) (ps : List Plant) (taken : List Sample) (c : 
         -- so it has a justified list of certificates for the sample, and its lines with them
         pub other-allowed : IsAllowedHere (c' k)
         other-allowed =
-            sym (all_allowed-same all more any_justified ps lives (c' k) k within-all) ∙ ap
-            (λ lives. all_allowed any_justified zonotope_observer ps lives (c' k) whole k) same-front.1
+            sym (all_allowed-same all more any_justified ps lives (c' k) k within-all)
+            ∙ ap (λ lives. all_allowed any_justified zonotope_observer ps lives (c' k) whole k) same-front.1
             ∙ justified k (omega (arith, many-samples))
 
         pub other-lines : (others : List Line) × (lines_by (c' k) ++ others ≡ x)
@@ -262,8 +262,8 @@ module _ (names : List (List ℕ)) (ps : List Plant) (taken : List Sample) (c : 
             let lines = first_lines whole c k in
             let here = sample_lines (sample_answer zonotope_observer ps lives' (c' k) whole k) in
             let same : lines_by (c' k) ≡ here =
-            ap sample_lines (sym (sample_answer-same all more ps lives (c' k) k within-all) ∙ ap
-            (λ lives. sample_answer zonotope_observer ps lives (c' k) whole k) same-front.1) in (
+            ap sample_lines (sym (sample_answer-same all more ps lives (c' k) k within-all)
+            ∙ ap (λ lives. sample_answer zonotope_observer ps lives (c' k) whole k) same-front.1) in (
               others,
               append_cancel_left lines (lines_by (c' k) ++ others) x
                   (ap (λ ls. lines ++ (ls ++ others)) same ∙ ap (λ ls. ls ++ (here ++ others)) same-front.0 ∙ split-lines),
