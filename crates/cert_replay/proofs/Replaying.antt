@@ -1,11 +1,11 @@
 -- One sample more of a report that is replayed.
-use Rattle.std.proofs.Common.{◌≡◌, inl, inr, ℕ, zero, suc, ◌+◌, ◌^◌, ◌<◌, ◌≤◌, Bool, true, List, [], ◌∷◌, ◌++◌, length, map, flat_map, Option, refl, sym, ap, ◌∙◌, arith, subst, append-nil, append_assoc, length-append}
+use Rattle.std.proofs.Common.{◌≡◌, inl, inr, ℕ, zero, suc, ◌+◌, ◌^◌, ◌<◌, ◌≤◌, Bool, true, List, [], ◌∷◌, ◌++◌, length, map, flat_map, Option, refl, sym, ap, ◌∙◌, arith, subst, append_assoc, length-append}
 use Rattle.std.specs.List.{All, list_all, count_by}
 use Rattle.std.proofs.lemmas.List.{length-map}
 use Rattle.outside_io.specs.Shelf.{ShelfState}
 use Rattle.farkas_check.specs.Certificate.{Certificate}
 use Rattle.plant_model.specs.Plant.{Plant, Sample}
-use Rattle.observer_step.specs.Answers.{zonotope_observer}
+use Rattle.observer_step.specs.SetsAnswers.{sets_observer}
 use Rattle.model_bank.specs.Answers.{SampleAnswer, sample_answer}
 use Rattle.model_bank.specs.Bank.{Bank, BankStands}
 use Rattle.model_bank.specs.Stepping.{TakesOffers, Refusal, RefusesOffer}
@@ -22,7 +22,7 @@ use Rattle.report_rules.specs.Replay.{watch, lines_so_far, chosen_at, DepartsAt,
 use Rattle.report_rules.proofs.Chosen.{length-lives_before}
 use Rattle.report_rules.proofs.Placed.{length-allowed, length-preds}
 use Rattle.report_rules.proofs.Replays.{replayed-lives, lines-longer, replayed-more, sample-departs}
-use Rattle.report_rules.proofs.Offered.{refused_lines, due_offers, due_offers-allowed, refused_lines-begin, refused-departs}
+use Rattle.report_rules.proofs.Offered.{refused_lines, refused_lines-depart, refused-departs}
 use Rattle.report_rules.proofs.Ranged.{CanBePrinted, refused_lines-ranged}
 use Rattle.cert_replay.specs.Window.{left_in, HasUnread, ReadsAhead, PartsBehind, TakesText, DepartsFrom, DepartsBehind}
 use Rattle.cert_replay.specs.Offers.{AreCountsOf, TakesSample, lines_of}
@@ -42,7 +42,7 @@ printed-all (r ∷ rs) (suc k) d l = printed-all rs k d (omega (arith, l))
 pub possible-many : (names : List (List ℕ)) (ps : List Plant) (taken : List Sample) (bytes : List ℕ) (r : Replay) (s : ShelfState) → AreModels names ps r.counts → (checked : Checked names ps taken bytes r s)
     → length r.last.possible.items ≡ length r.counts.states.items
 possible-many names ps taken bytes r s models checked =
-    let lives = length-lives_before checked.choice (length ps) (length taken) (λ j l. (length-allowed taken j ps (lives_before checked.choice (length ps) j) (checked.choice j) (checked.replayed.allowed j l)).1) in
+    let lives = length-lives_before checked.choice (length ps) (length taken) (λ j l. (length-allowed sets_observer taken j ps (lives_before checked.choice (length ps) j) (checked.choice j) (checked.replayed.allowed j l)).1) in
     ap length checked.possible_are ∙ lives ∙ sym (length-map ps (λ (p : Plant). p.states)) ∙ ap length models.counts_are.states_are
 
 module _ (names : List (List ℕ)) (ps : List Plant) (taken : List Sample) (bytes : List ℕ) (r0 : Replay) (shelf0 shelf1 : ShelfState) (w1 : Window) (s : Sample) (os : List (Option Certificate))
@@ -80,7 +80,7 @@ module _ (names : List (List ℕ)) (ps : List Plant) (taken : List Sample) (byte
       fewer (inr none) = inr none
 
   many-lives : length lives ≡ length ps
-  many-lives = length-lives_before checked.choice (length ps) k (λ j l. (length-allowed taken j ps (lives_before checked.choice (length ps) j) (checked.choice j) (checked.replayed.allowed j l)).1)
+  many-lives = length-lives_before checked.choice (length ps) k (λ j l. (length-allowed sets_observer taken j ps (lives_before checked.choice (length ps) j) (checked.choice j) (checked.replayed.allowed j l)).1)
 
   line-before : w1.lines ≡ length (lines_so_far names ps taken checked.choice)
   line-before = ahead.lines ∙ checked.lines
@@ -89,7 +89,7 @@ module _ (names : List (List ℕ)) (ps : List Plant) (taken : List Sample) (byte
 
   module _ (bank : Bank) (last : SampleRec) (t : TakesOffers s os ps taken lives (sample_seen last) bank) where
     abbrev answer : SampleAnswer
-    answer = sample_answer zonotope_observer ps lives os all k
+    answer = sample_answer sets_observer ps lives os all k
 
     abbrev lines : List Line
     lines = sample_lines answer
@@ -121,18 +121,21 @@ module _ (names : List (List ℕ)) (ps : List Plant) (taken : List Sample) (byte
       where
         many : length (lines_so_far names ps all longer) ≡ length (lines_so_far names ps taken checked.choice) + length lines
         many =
-            let before = samples_lines zonotope_observer ps taken checked.choice k in
+            let before = samples_lines sets_observer ps taken checked.choice k in
             ap (λ ls. length (head_lines names ++ ls)) (lines-longer names ps taken checked.choice bytes checked.unread checked.replayed s os)
             ∙ ap length (sym (append_assoc (head_lines names) before lines)) ∙ length-append (head_lines names ++ before) lines
 
     -- a line of the sample does not stand
     pub sample-other : (line : ℕ) → DepartsFrom (lines_text (sample_lines (sample_seen last))) w1 line → (more : List Sample) (is_whole : Bool)
         → DepartsAt (watch names ps (all ++ more) is_whole) line bytes
+    unfolding sample-taken taken-enough
     sample-other line d more is_whole =
         let parts = subst (λ x. PartsBehind x (left_in w1) d.same) text-is d.parts in
-        let first = first-other lines ranges (left_in w1) left.rest checked.unread d.same left.is (taken-enough (length lines) (omega (arith, length-sample all k ps lives os))) parts in
+        let tk = taken-enough (length lines) (omega (arith, length-sample all k ps lives os)) in
+        let first = first-other lines ranges (left_in w1) left.rest checked.unread d.same left.is tk parts in
         subst (λ n. DepartsAt (watch names ps (all ++ more) is_whole) n bytes) (omega (arith, d.line_is, line-before, first.feeds))
-        (sample-departs names ps taken checked.choice bytes checked.unread checked.replayed s more is_whole os t.justified lines [] (sym (append-nil lines)) first.j title first.rest first.within first.are (first.other title))
+        (sample-departs names ps taken checked.choice bytes checked.unread checked.replayed s more is_whole models.few os t.justified ranges sample-taken.ts sample-taken.rest sample-taken.takes tk.enough
+        first.j title first.rest first.within first.are (first.other title))
 
   -- ---- an offer is not justified
 
@@ -148,7 +151,7 @@ module _ (names : List (List ℕ)) (ps : List Plant) (taken : List Sample) (byte
 
     few-lines : length front + 1 ≤ lines_of ps lives os + 3
     few-lines =
-        let below = length-allowed all k t.plants_below t.lives_below t.offers_below t.justified_below in
+        let below = length-allowed sets_observer all k t.plants_below t.lives_below t.offers_below t.justified_below in
         let some = lines_of-front t.plants_below t.lives_below t.offers_below t.plant t.plants_above t.lives_above refusal.offered t.offers_above below.0 below.1 in
         let is : lines_of ps lives os ≡ lines_of (t.plants_below ++ t.plant ∷ t.plants_above) (t.lives_below ++ true ∷ t.lives_above) (t.offers_below ++ refusal.offered ∷ t.offers_above) =
         ap (λ qs. lines_of qs lives os) t.plants_are ∙ ap (λ ls. lines_of (t.plants_below ++ t.plant ∷ t.plants_above) ls os) t.lives_are
@@ -156,21 +159,21 @@ module _ (names : List (List ℕ)) (ps : List Plant) (taken : List Sample) (byte
         let models : length (flat_map model_lines refusal.before) ≡ lines_of t.plants_below t.lives_below t.offers_below =
         ap (λ rs. length (flat_map model_lines rs)) t.before_are ∙ length-models all k 0 t.plants_below t.lives_below t.offers_below in
         let outs : length (pred_lines refusal.model refusal.predicted) ≡ t.plant.outputs =
-        ap (λ es. length (pred_lines refusal.model es)) t.predicted_are ∙ length-preds all k refusal.model t.plant refusal.offered in
+        ap (λ es. length (pred_lines refusal.model es)) t.predicted_are ∙ length-preds sets_observer all k refusal.model t.plant refusal.offered in
         omega (arith, some, is, models, outs, length-append (flat_map model_lines refusal.before) (pred_lines refusal.model refusal.predicted))
 
     -- the report departs up to the place of the offer, or there
     pub refused-other : (line : ℕ) → DepartsBehind (lines_text front) w1 line → (more : List Sample) (is_whole : Bool) → DepartsAt (watch names ps (all ++ more) is_whole) line bytes
     unfolding sample-taken taken-enough
     refused-other line (DepartsBehind.within d) more is_whole =
-        let first = first-other front front-ranges (left_in w1) left.rest checked.unread d.same left.is (taken-enough (length front) (omega (arith, few-lines))) d.parts in
-        let begin = refused_lines-begin names ps taken checked.choice bytes checked.unread checked.replayed s os refusal t in
-        let due = due_offers names ps taken checked.choice bytes checked.unread checked.replayed s os refusal t in
-        let allowed = due_offers-allowed names ps taken checked.choice bytes checked.unread checked.replayed s os refusal t in
+        let tk = taken-enough (length front) (omega (arith, few-lines)) in
+        let first = first-other front front-ranges (left_in w1) left.rest checked.unread d.same left.is tk d.parts in
         subst (λ n. DepartsAt (watch names ps (all ++ more) is_whole) n bytes) (omega (arith, d.line_is, line-before, first.feeds))
-        (sample-departs names ps taken checked.choice bytes checked.unread checked.replayed s more is_whole due allowed front begin.0 begin.1 first.j title first.rest first.within first.are (first.other title))
+        (refused_lines-depart names ps taken checked.choice bytes checked.unread checked.replayed s os refusal t models.few sample-taken.ts sample-taken.rest sample-taken.takes front-ranges more is_whole
+        tk.enough first.j title first.rest first.within first.are (first.other title))
     refused-other line (DepartsBehind.behind rest is number) more is_whole =
         let tk = taken-enough (length front + 1) few-lines in
         let e : checked.unread ≡ lines_text front ++ (rest ++ left.rest) = left.is ∙ ap (λ x. x ++ left.rest) is ∙ append_assoc (lines_text front) rest left.rest in
         subst (λ n. DepartsAt (watch names ps (all ++ more) is_whole) n bytes) (omega (arith, number, line-before, feeds-lines front front-ranges))
-        (refused-departs names ps taken checked.choice bytes checked.unread checked.replayed s os refusal t models.few sample-taken.ts sample-taken.rest sample-taken.takes (rest ++ left.rest) e front-ranges tk.enough more is_whole)
+        (refused-departs names ps taken checked.choice bytes checked.unread checked.replayed s os refusal t models.few sample-taken.ts sample-taken.rest sample-taken.takes front-ranges more is_whole
+        (rest ++ left.rest) e tk.enough)

@@ -7,7 +7,8 @@ use Rattle.farkas_check.specs.Certificate.{Certificate}
 use Rattle.isolate_core.specs.Verdict.{possible_from, possible_models, verdict_of}
 use Rattle.isolate_core.specs.declared.verdict.Verdict.TheVariants.{Several, Fault}
 use Rattle.plant_model.specs.Plant.{Plant, Sample}
-use Rattle.observer_step.specs.Answers.{zonotope_observer, any_justified}
+use Rattle.observer_step.specs.Answers.{any_justified}
+use Rattle.observer_step.specs.SetsAnswers.{sets_observer}
 use Rattle.model_bank.specs.Answers.{answers_from, all_allowed, live_after, sample_answer}
 use Rattle.report_text.specs.Line.{possible, verdict}
 use Rattle.report_text.specs.Ranges.{is_in_range, is_model_index, is_sample_number, is_verdict, rise_from}
@@ -21,21 +22,21 @@ use Rattle.cert_replay.specs.Offers.{lines_of}
 
 module _ (samples : List Sample) (k : ℕ) where
   pub length-models : (i : ℕ) (ps : List Plant) (lives : List Bool) (cs : List (Option Certificate))
-      → length (flat_map model_lines (answers_from zonotope_observer i ps lives cs samples k)) ≡ lines_of ps lives cs
+      → length (flat_map model_lines (answers_from sets_observer i ps lives cs samples k)) ≡ lines_of ps lives cs
   length-models i [] lives cs = refl
   length-models i (p ∷ ps) [] cs = refl
   length-models i (p ∷ ps) (live ∷ lives) [] = refl
   length-models i (p ∷ ps) (true ∷ lives) (c ∷ cs) =
-      length-append (model_lines (record { index = i; answer = answer_at samples k p c })) (flat_map model_lines (answers_from zonotope_observer (i + 1) ps lives cs samples k))
-      ∙ ap (λ n. n + length (flat_map model_lines (answers_from zonotope_observer (i + 1) ps lives cs samples k))) (length-model samples k i p c)
+      length-append (model_lines (record { index = i; answer = answer_at sets_observer samples k p c })) (flat_map model_lines (answers_from sets_observer (i + 1) ps lives cs samples k))
+      ∙ ap (λ n. n + length (flat_map model_lines (answers_from sets_observer (i + 1) ps lives cs samples k))) (length-model sets_observer samples k i p c)
       ∙ ap (λ n. count_of p c + n) (length-models (i + 1) ps lives cs)
   length-models i (p ∷ ps) (false ∷ lives) (c ∷ cs) = length-models (i + 1) ps lives cs ∙ omega arith
 
   pub length-sample : (ps : List Plant) (lives : List Bool) (cs : List (Option Certificate))
-      → length (sample_lines (sample_answer zonotope_observer ps lives cs samples k)) ≡ lines_of ps lives cs + 3
+      → length (sample_lines (sample_answer sets_observer ps lives cs samples k)) ≡ lines_of ps lives cs + 3
   length-sample ps lives cs =
       let closing = possible (possible_models (live_after lives cs)) ∷ verdict (verdict_of (possible_models (live_after lives cs))) ∷ [] in
-      let models = flat_map model_lines (answers_from zonotope_observer 0 ps lives cs samples k) in
+      let models = flat_map model_lines (answers_from sets_observer 0 ps lives cs samples k) in
       omega (arith, length-append models closing, length-models 0 ps lives cs)
 
 -- the lines of the models in front of others
@@ -84,11 +85,11 @@ length-live (b ∷ bs) [] = omega arith
 length-live (b ∷ bs) (c ∷ cs) = omega (arith, length-live bs cs)
 
 pub sample-ranged : (samples : List Sample) (k : ℕ) (ps : List Plant) (lives : List Bool) (cs : List (Option Certificate)) → AreFew ps → All (λ (p : Plant). p.states ≤ 8) ps
-    → length lives ≡ length ps → k < 2 ^ 63 → all_allowed any_justified zonotope_observer ps lives cs samples k ≡ true
-    → All CanBePrinted (answers_from zonotope_observer 0 ps lives cs samples k)
-    → list_all is_in_range (sample_lines (sample_answer zonotope_observer ps lives cs samples k)) ≡ true
+    → length lives ≡ length ps → k < 2 ^ 63 → all_allowed any_justified sets_observer ps lives cs samples k ≡ true
+    → All CanBePrinted (answers_from sets_observer 0 ps lives cs samples k)
+    → list_all is_in_range (sample_lines (sample_answer sets_observer ps lives cs samples k)) ≡ true
 sample-ranged samples k ps lives cs few states as_many number allowed printed =
-    let models = flat_map model_lines (answers_from zonotope_observer 0 ps lives cs samples k) in
+    let models = flat_map model_lines (answers_from sets_observer 0 ps lives cs samples k) in
     let stay = live_after lives cs in
     let closing = possible (possible_models stay) ∷ verdict (verdict_of (possible_models stay)) ∷ [] in
     let rise = rises 0 0 stay (omega arith) (omega (arith, length-live lives cs, as_many, few.few_models)) in

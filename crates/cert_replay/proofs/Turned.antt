@@ -130,10 +130,10 @@ module _ {head : Columns} {r0 r : Replay} {s0 s : ShelfState} {c0 c : Cutter} {l
             where-departs : EndDeparts r.bank.count r.window.lines now.unread line → DepartsAt (watch names ps taken true) line bytes
             where-departs (EndDeparts.missing e other) =
                 subst (λ n. DepartsAt (watch names ps taken true) n bytes) (sym (e ∙ ap (λ n. n + 1) now.lines))
-                (end-departs names ps taken now.choice bytes now.unread now.replayed (λ x. subst (λ n. now.unread ≢ put_text (end n) ++ x) now.stands.count_is (other x)))
+                (end-departs names ps taken now.choice bytes now.unread now.replayed models.few (λ x. subst (λ n. now.unread ≢ put_text (end n) ++ x) now.stands.count_is (other x)))
             where-departs (EndDeparts.behind e v is some) =
                 subst (λ n. DepartsAt (watch names ps taken true) n bytes) (sym (e ∙ ap (λ n. n + 2) now.lines))
-                (behind-departs names ps taken now.choice bytes now.unread now.replayed v (is ∙ ap (λ n. put_text (end n) ++ v) now.stands.count_is) some)
+                (behind-departs names ps taken now.choice bytes now.unread now.replayed models.few v (is ∙ ap (λ n. put_text (end n) ++ v) now.stands.count_is) some)
         by (Err Memory) departs stands not = tt
 
 -- ---- where the other slot was read

@@ -2,3 +2,12 @@ pub mod Hulls
 pub mod Misses
 pub mod Chosen
 pub mod Later
+pub mod Placed
+pub mod Refused
+pub mod Parting
+pub mod Alike
+pub mod Agree
+pub mod Departs
+pub mod Replays
+pub mod Offered
+pub mod Ranged

@@ -9,7 +9,8 @@ use Rattle.model_file.specs.declared.fault.ModelFault.{ModelFault}
 use Rattle.model_file.specs.Bank.{Models}
 use Rattle.telem_csv.specs.Rows.{Rows}
 use Rattle.telem_csv.specs.declared.fault.TelemFault.{TelemFault}
-use Rattle.observer_step.specs.Answers.{zonotope_observer, any_justified}
+use Rattle.observer_step.specs.Answers.{any_justified}
+use Rattle.observer_step.specs.SetsAnswers.{sets_observer}
 use Rattle.report_text.specs.Line.{Line, lines_text}
 use Rattle.report_rules.proofs.Hulls.{hulls-sound, exclusions-sound, zonotope-sound}
 use Rattle.report_rules.proofs.Misses.{misses-told}
@@ -372,26 +373,26 @@ own-kept model telemetry report before answer after h = own (before.shelf.file m
 
 -- a claim on the lines of a report that is accepted
 lines-with : (ms : Models) (rows : Rows) (b : List ℕ) (claim : List Line → Type 0)
-    → ((lines : List Line) → IsReport any_justified zonotope_observer (watch_of ms rows) lines → claim lines) → Accepts (monitored ms rows) b → AreLinesWith claim ms rows b
+    → ((lines : List Line) → IsReport any_justified sets_observer (watch_of ms rows) lines → claim lines) → Accepts (monitored ms rows) b → AreLinesWith claim ms rows b
 lines-with ms rows b claim f h =
     let whole : (watch_of ms rows).is_whole ≡ true = ap is_none h.0 in
-    let text : IsReportText any_justified zonotope_observer (watch_of ms rows) b = subst (λ w. SatisfiesBy w (watch_of ms rows) b) whole h.1 in
+    let text : IsReportText any_justified sets_observer (watch_of ms rows) b = subst (λ w. SatisfiesBy w (watch_of ms rows) b) whole h.1 in
     (text.0, text.1, text.2, f text.0 text.1)
 
 pub checked-hulls : (f : Files) (b : List ℕ) → Accepts f b → CheckedHulls f b
 checked-hulls (bad_model x) b h = h.0
 checked-hulls (bad_header x) b h = h.0
-checked-hulls (monitored ms rows) b h = lines-with ms rows b _ (λ lines is. hulls-sound zonotope_observer (watch_of ms rows) lines (zonotope-sound rows.samples (length rows.samples)) is) h
+checked-hulls (monitored ms rows) b h = lines-with ms rows b _ (λ lines is. hulls-sound sets_observer (watch_of ms rows) lines (zonotope-sound rows.samples (length rows.samples)) is) h
 
 pub checked-exclusions : (f : Files) (b : List ℕ) → Accepts f b → CheckedExclusions f b
 checked-exclusions (bad_model x) b h = h.0
 checked-exclusions (bad_header x) b h = h.0
-checked-exclusions (monitored ms rows) b h = lines-with ms rows b _ (λ lines is. exclusions-sound zonotope_observer (watch_of ms rows) lines (zonotope-sound rows.samples (length rows.samples)) is) h
+checked-exclusions (monitored ms rows) b h = lines-with ms rows b _ (λ lines is. exclusions-sound sets_observer (watch_of ms rows) lines (zonotope-sound rows.samples (length rows.samples)) is) h
 
 pub checked-misses : (f : Files) (b : List ℕ) → Accepts f b → CheckedMisses f b
 checked-misses (bad_model x) b h = h.0
 checked-misses (bad_header x) b h = h.0
-checked-misses (monitored ms rows) b h = lines-with ms rows b _ (λ lines is. misses-told zonotope_observer (watch_of ms rows) lines is) h
+checked-misses (monitored ms rows) b h = lines-with ms rows b _ (λ lines is. misses-told sets_observer (watch_of ms rows) lines is) h
 
 -- what holds of accepted reports holds of the one that was checked
 pub if-accepted : (shelf : ShelfState) (model telemetry report : List ℕ) (P : Files → List ℕ → Type 0) → ((f : Files) (b : List ℕ) → Accepts f b → P f b)

@@ -8,7 +8,8 @@ use Rattle.outside_io.proofs.Fronts.{no-front, all-front}
 use Rattle.model_file.specs.Bank.{Models}
 use Rattle.model_file.specs.ModelFile.{models_of}
 use Rattle.model_file.specs.declared.fault.ModelFault.{ModelFault}
-use Rattle.observer_step.specs.Answers.{zonotope_observer, any_justified}
+use Rattle.observer_step.specs.Answers.{any_justified}
+use Rattle.observer_step.specs.SetsAnswers.{sets_observer}
 use Rattle.telem_csv.specs.declared.fault.TelemFault.{TelemFault}
 use Rattle.report_text.specs.Line.{Line, lines_text}
 use Rattle.report_rules.proofs.Hulls.{hulls-sound, exclusions-sound, zonotope-sound}
@@ -320,20 +321,20 @@ module _ (model telemetry : List ℕ) (before after : Outside) where
 -- ---- what the lines claim
 
 -- what a run puts is accepted
-pub put-accepted : (ms : Models) (rows : Rows) → IsReport any_justified zonotope_observer (watch_of ms rows) (report_of_rows ms rows)
-put-accepted ms rows = run-accepted zonotope_observer (watch_of ms rows) (report_of_rows ms rows) zonotope-refutes (due-chosen (watch_of ms rows))
+pub put-accepted : (ms : Models) (rows : Rows) → IsReport any_justified sets_observer (watch_of ms rows) (report_of_rows ms rows)
+put-accepted ms rows = run-accepted sets_observer (watch_of ms rows) (report_of_rows ms rows) zonotope-refutes (due-chosen (watch_of ms rows))
 
 pub true-hulls : (f : Files) → TrueHulls f
 true-hulls (bad_model fault) = tt
 true-hulls (bad_header fault) = tt
-true-hulls (monitored ms rows) = hulls-sound zonotope_observer (watch_of ms rows) (report_of_rows ms rows) (zonotope-sound rows.samples (length rows.samples)) (put-accepted ms rows)
+true-hulls (monitored ms rows) = hulls-sound sets_observer (watch_of ms rows) (report_of_rows ms rows) (zonotope-sound rows.samples (length rows.samples)) (put-accepted ms rows)
 
 pub true-exclusions : (f : Files) → TrueExclusions f
 true-exclusions (bad_model fault) = tt
 true-exclusions (bad_header fault) = tt
-true-exclusions (monitored ms rows) = exclusions-sound zonotope_observer (watch_of ms rows) (report_of_rows ms rows) (zonotope-sound rows.samples (length rows.samples)) (put-accepted ms rows)
+true-exclusions (monitored ms rows) = exclusions-sound sets_observer (watch_of ms rows) (report_of_rows ms rows) (zonotope-sound rows.samples (length rows.samples)) (put-accepted ms rows)
 
 pub true-misses : (f : Files) → TrueMisses f
 true-misses (bad_model fault) = tt
 true-misses (bad_header fault) = tt
-true-misses (monitored ms rows) = misses-told zonotope_observer (watch_of ms rows) (report_of_rows ms rows) (put-accepted ms rows)
+true-misses (monitored ms rows) = misses-told sets_observer (watch_of ms rows) (report_of_rows ms rows) (put-accepted ms rows)

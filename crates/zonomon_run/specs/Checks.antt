@@ -6,7 +6,8 @@ use Rattle.outside_io.specs.Sink.{Gains, GainsFront}
 use Rattle.model_file.specs.Bank.{Models}
 use Rattle.telem_csv.specs.Rows.{Rows}
 use Rattle.telem_csv.specs.declared.fault.TelemFault.{TelemFault}
-use Rattle.observer_step.specs.Answers.{any_justified, zonotope_observer}
+use Rattle.observer_step.specs.Answers.{any_justified}
+use Rattle.observer_step.specs.SetsAnswers.{sets_observer}
 use Rattle.model_bank.specs.Bank.{plants_in}
 use Rattle.report_text.specs.Line.{Line, lines_text}
 use Rattle.report_rules.specs.Report.{IsReport}
@@ -130,7 +131,7 @@ KeepsOwn result files bytes = bytes ≡ report_text files → result ≢ 7
 -- the bytes are the lines of a report of which this holds
 abbrev pub AreLinesWith : (List Line → Type 0) → Models → Rows → List ℕ → Type 0
 AreLinesWith claim ms rows bytes =
-    (lines : List Line) × IsReport any_justified zonotope_observer (watch_of ms rows) lines
+    (lines : List Line) × IsReport any_justified sets_observer (watch_of ms rows) lines
     × (bytes ≡ lines_text lines) × claim lines
 
 -- each of its hulls holds every trajectory of its model

@@ -1,0 +1,109 @@
+-- Two justified reports agree as far as their texts do; and a justified choice goes on with the certificates that are due.
+use Rattle.std.proofs.Common.{◌≡◌, ◌⊎◌, inl, inr, ℕ, ◌<◌, ◌≤◌, nat_lt, Bool, true, false, List, [], ◌∷◌, ◌++◌, length, map, take, if◌then◌else◌, refl, sym, ap, ◌∙◌, arith, length-append}
+use Rattle.std.proofs.lemmas.Bool.Decides.{nat_tests}
+use Rattle.std.proofs.lemmas.List.{append-nil, length-map, take_at}
+use Rattle.plant_model.specs.Plant.{Plant, Sample}
+use Rattle.observer_step.specs.Answers.{Observer, any_justified}
+use Rattle.observer_step.specs.SetsAnswers.{sets_observer}
+use Rattle.model_bank.specs.Answers.{certificates_at, all_allowed}
+use Rattle.report_text.specs.Line.{Line, lines_text}
+use Rattle.report_rules.specs.Lines.{head_lines, last_lines}
+use Rattle.report_rules.specs.Report.{Watch, Choice, lives_before, samples_lines, report, AllowedBefore}
+use Rattle.report_rules.specs.Replay.{AreFew}
+use Rattle.report_rules.proofs.Chosen.{length-lives_before}
+use Rattle.report_rules.proofs.Later.{lives-alike, lines-alike}
+use Rattle.model_bank.proofs.Allowed.{dues-allowed}
+use Rattle.report_rules.proofs.Placed.{length-allowed}
+use Rattle.report_rules.proofs.Parting.{PartsAt, NoneTaken, AllAgree, parts-behind, parts-before, parted-no-front, parted-agree}
+use Rattle.report_rules.proofs.Alike.{IsAllowedTo, SamplesAlike, samples-alike}
+
+-- ---- two justified reports
+
+nothing-behind : (ls stuff : List Line) → ls ≡ ls ++ stuff → stuff ≡ []
+nothing-behind ls [] e = refl
+nothing-behind ls (l ∷ stuff) e = absurd (omega (arith, ap length e, length-append ls (l ∷ stuff)))
+
+module _ (o : Observer) (w : Watch) (few : AreFew w.plants) (c c' : Choice) (allowed : AllowedBefore any_justified o w c (length w.samples))
+    (allowed' : AllowedBefore any_justified o w c' (length w.samples)) where
+  abbrev ReportsAlike : Type 0
+  ReportsAlike = (report o w c ≡ report o w c') ⊎ PartsAt NoneTaken (report o w c) (report o w c')
+
+  reports-alike : ReportsAlike
+  reports-alike = by (samples-alike o w.plants w.samples few c c' (length w.samples) allowed allowed')
+    where
+      by : SamplesAlike o w.plants w.samples few c c' (length w.samples) → ReportsAlike
+      by (inl same) = inl (ap (λ ls. head_lines w.names ++ ls ++ last_lines (length w.samples) w.is_whole) same.0)
+      by (inr parts) =
+          inr (parts-before (last_lines (length w.samples) w.is_whole) (last_lines (length w.samples) w.is_whole)
+          (parts-behind (head_lines w.names) (λ ts t. absurd t) parts))
+
+  -- they agree as far as their texts do
+  pub reports-agree : AllAgree (report o w c) (report o w c')
+  reports-agree = by reports-alike
+    where
+      by : ReportsAlike → AllAgree (report o w c) (report o w c')
+      by (inl same) = λ n r r' e. ap (take n) same
+      by (inr parts) = parted-agree parts
+
+  -- as many lines in front, which begin one text, are the same
+  pub fronts-agree : (a x a' x' : List Line) (r r' : List ℕ) → report o w c ≡ a ++ x → report o w c' ≡ a' ++ x' → length a' ≡ length a
+      → lines_text a ++ r ≡ lines_text a' ++ r' → a ≡ a'
+  fronts-agree a x a' x' r r' is is' same e =
+      let first : take (length a) (report o w c) ≡ a = ap (take (length a)) is ∙ take_at a x (length a) refl in
+      let second : take (length a) (report o w c') ≡ a' = ap (take (length a)) is' ∙ take_at a' x' (length a) same in
+      sym first ∙ reports-agree (length a) r r' (ap (λ ls. lines_text ls ++ r) first ∙ e ∙ ap (λ ls. lines_text ls ++ r') (sym second)) ∙ second
+
+  -- the one does not go on where the other ends
+  pub reports-end : (stuff : List Line) → report o w c' ≡ report o w c ++ stuff → stuff ≡ []
+  reports-end stuff e = by reports-alike
+    where
+      by : ReportsAlike → stuff ≡ []
+      by (inl same) = nothing-behind (report o w c) stuff (same ∙ e)
+      by (inr parts) = absurd (parted-no-front parts [] stuff (append-nil (report o w c') ∙ e))
+
+-- ---- a choice for the first samples goes on with the certificates that are due
+
+abbrev pub extended : List Plant → List Sample → Choice → ℕ → Choice
+extended ps samples c n j = if nat_lt j n then c j else certificates_at sets_observer ps samples j
+
+module _ (ps : List Plant) (samples : List Sample) (c : Choice) (n : ℕ) (allowed : IsAllowedTo sets_observer ps samples c n) where
+  abbrev longer : Choice
+  longer = extended ps samples c n
+
+  before-n : (j : ℕ) → j < n → longer j ≡ c j
+  before-n j l = ap (λ b. if b then c j else certificates_at sets_observer ps samples j) within
+    where
+      within : nat_lt j n ≡ true
+      within = grind (arith, nat_tests)
+
+  lives-before_n : (j : ℕ) → j ≤ n → lives_before longer (length ps) j ≡ lives_before c (length ps) j
+  lives-before_n j l = lives-alike longer c (length ps) j (λ i h. before-n i (omega (arith, l, h)))
+
+  pub extended-lines : samples_lines sets_observer ps samples (extended ps samples c n) n ≡ samples_lines sets_observer ps samples c n
+  extended-lines = lines-alike ps samples longer c n before-n
+
+  abbrev every : List Bool
+  every = map (λ p. true) ps
+
+  -- something is said of each model
+  many-said : (j : ℕ) → length (longer j) ≡ length ps
+  many-said j = by (nat_lt j n) refl
+    where
+      by : (b : Bool) → nat_lt j n ≡ b → length (if b then c j else certificates_at sets_observer ps samples j) ≡ length ps
+      by true h = (length-allowed sets_observer samples j ps (lives_before c (length ps) j) (c j) (allowed j (grind (arith, nat_tests)))).1
+      by false h = (length-allowed sets_observer samples j ps every (certificates_at sets_observer ps samples j)
+          (dues-allowed any_justified ps every samples j (length-map ps (λ p. true)))).1
+
+  pub extended-allowed : (j : ℕ) → all_allowed any_justified sets_observer ps (lives_before (extended ps samples c n) (length ps) j)
+      (extended ps samples c n j) samples j ≡ true
+  extended-allowed j = by (nat_lt j n) refl
+    where
+      by : (b : Bool) → nat_lt j n ≡ b
+          → all_allowed any_justified sets_observer ps (lives_before longer (length ps) j)
+          (if b then c j else certificates_at sets_observer ps samples j) samples j ≡ true
+      by true h =
+          let within : j < n = grind (arith, nat_tests) in
+          ap (λ lives. all_allowed any_justified sets_observer ps lives (c j) samples j) (lives-before_n j (omega (arith, within)))
+          ∙ allowed j within
+      by false h =
+          dues-allowed any_justified ps (lives_before longer (length ps) j) samples j (length-lives_before longer (length ps) j (λ i l. many-said i))
