@@ -12,7 +12,7 @@ use Rattle.telem_csv.specs.declared.fault.TelemFault.{TelemFault}
 use Rattle.observer_step.specs.Answers.{any_justified}
 use Rattle.observer_step.specs.SetsAnswers.{sets_observer}
 use Rattle.report_text.specs.Line.{Line, lines_text}
-use Rattle.report_rules.proofs.Hulls.{hulls-sound, exclusions-sound, zonotope-sound}
+use Rattle.report_rules.proofs.Hulls.{hulls-sound, exclusions-sound, estimate-sound}
 use Rattle.report_rules.proofs.Misses.{misses-told}
 use Rattle.report_rules.specs.Report.{IsReport, IsReportText}
 use Rattle.report_rules.specs.Replay.{Satisfies, SatisfiesBy}
@@ -382,12 +382,12 @@ lines-with ms rows b claim f h =
 pub checked-hulls : (f : Files) (b : List ℕ) → Accepts f b → CheckedHulls f b
 checked-hulls (bad_model x) b h = h.0
 checked-hulls (bad_header x) b h = h.0
-checked-hulls (monitored ms rows) b h = lines-with ms rows b _ (λ lines is. hulls-sound sets_observer (watch_of ms rows) lines (zonotope-sound rows.samples (length rows.samples)) is) h
+checked-hulls (monitored ms rows) b h = lines-with ms rows b _ (λ lines is. hulls-sound sets_observer (watch_of ms rows) lines (estimate-sound rows.samples (length rows.samples)) is) h
 
 pub checked-exclusions : (f : Files) (b : List ℕ) → Accepts f b → CheckedExclusions f b
 checked-exclusions (bad_model x) b h = h.0
 checked-exclusions (bad_header x) b h = h.0
-checked-exclusions (monitored ms rows) b h = lines-with ms rows b _ (λ lines is. exclusions-sound sets_observer (watch_of ms rows) lines (zonotope-sound rows.samples (length rows.samples)) is) h
+checked-exclusions (monitored ms rows) b h = lines-with ms rows b _ (λ lines is. exclusions-sound sets_observer (watch_of ms rows) lines (estimate-sound rows.samples (length rows.samples)) is) h
 
 pub checked-misses : (f : Files) (b : List ℕ) → Accepts f b → CheckedMisses f b
 checked-misses (bad_model x) b h = h.0

@@ -12,9 +12,9 @@ use Rattle.observer_step.specs.Answers.{any_justified}
 use Rattle.observer_step.specs.SetsAnswers.{sets_observer}
 use Rattle.telem_csv.specs.declared.fault.TelemFault.{TelemFault}
 use Rattle.report_text.specs.Line.{Line, lines_text}
-use Rattle.report_rules.proofs.Hulls.{hulls-sound, exclusions-sound, zonotope-sound}
+use Rattle.report_rules.proofs.Hulls.{hulls-sound, exclusions-sound, estimate-sound}
 use Rattle.report_rules.proofs.Misses.{misses-told}
-use Rattle.report_rules.proofs.Chosen.{run-accepted, due-chosen, zonotope-refutes}
+use Rattle.report_rules.proofs.Chosen.{run-accepted, due-chosen, estimate-refutes}
 use Rattle.report_rules.specs.Report.{IsReport}
 use Rattle.monitor_run.specs.declared.done.Done.{Done}
 use Rattle.monitor_run.specs.declared.done.RunFault.{RunFault}
@@ -322,17 +322,17 @@ module _ (model telemetry : List ℕ) (before after : Outside) where
 
 -- what a run puts is accepted
 pub put-accepted : (ms : Models) (rows : Rows) → IsReport any_justified sets_observer (watch_of ms rows) (report_of_rows ms rows)
-put-accepted ms rows = run-accepted sets_observer (watch_of ms rows) (report_of_rows ms rows) zonotope-refutes (due-chosen (watch_of ms rows))
+put-accepted ms rows = run-accepted sets_observer (watch_of ms rows) (report_of_rows ms rows) estimate-refutes (due-chosen (watch_of ms rows))
 
 pub true-hulls : (f : Files) → TrueHulls f
 true-hulls (bad_model fault) = tt
 true-hulls (bad_header fault) = tt
-true-hulls (monitored ms rows) = hulls-sound sets_observer (watch_of ms rows) (report_of_rows ms rows) (zonotope-sound rows.samples (length rows.samples)) (put-accepted ms rows)
+true-hulls (monitored ms rows) = hulls-sound sets_observer (watch_of ms rows) (report_of_rows ms rows) (estimate-sound rows.samples (length rows.samples)) (put-accepted ms rows)
 
 pub true-exclusions : (f : Files) → TrueExclusions f
 true-exclusions (bad_model fault) = tt
 true-exclusions (bad_header fault) = tt
-true-exclusions (monitored ms rows) = exclusions-sound sets_observer (watch_of ms rows) (report_of_rows ms rows) (zonotope-sound rows.samples (length rows.samples)) (put-accepted ms rows)
+true-exclusions (monitored ms rows) = exclusions-sound sets_observer (watch_of ms rows) (report_of_rows ms rows) (estimate-sound rows.samples (length rows.samples)) (put-accepted ms rows)
 
 pub true-misses : (f : Files) → TrueMisses f
 true-misses (bad_model fault) = tt
