@@ -9,3 +9,4 @@ pub mod Placed
 pub mod Refused
 pub mod Offered
 pub mod Ranged
+pub mod Fronts
