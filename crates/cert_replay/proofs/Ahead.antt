@@ -1,21 +1,19 @@
 -- Where the report is refused, the telemetry was read to the row that is wanted, and one piece at most behind its line.
-use Rattle.std.proofs.Common.{◌≡◌, ℕ, ◌+◌, ◌<◌, ◌≤◌, Bool, true, false, List, [], ◌++◌, length, Option, Some, None, IfSome, Result, Ok, Err, refl, sym, ap, ◌∙◌, subst, arith, length-append, ◌⊎◌, inl, inr}
+use Rattle.std.proofs.Common.{◌≡◌, ℕ, ◌+◌, ◌<◌, ◌≤◌, Bool, true, false, List, [], ◌++◌, length, Option, Some, None, IfSome, Result, Ok, Err, refl, sym, ap, subst, arith, length-append, ◌⊎◌, inl, inr}
 use Rattle.outside_io.specs.Shelf.{ShelfState}
 use Rattle.outside_io.specs.declared.shelf.GetFault.{GetFault}
 use Rattle.outside_io.specs.declared.shelf.GetFault.TheVariants as get
 use Rattle.plant_model.specs.Plant.{Plant, Sample}
 use Rattle.telem_csv.specs.Columns.{Columns}
 use Rattle.telem_csv.specs.Cutter.{Cutter, at_start}
-use Rattle.telem_csv.specs.Telemetry.{Telemetry as Told}
 use Rattle.model_file.specs.Bank.{Models}
 use Rattle.model_file.specs.ModelFile.{models_of}
 use Rattle.model_bank.specs.Bank.{names_in}
-use Rattle.report_text.specs.Line.{Line}
-use Rattle.report_rules.specs.Lines.{head_lines}
-use Rattle.report_rules.proofs.Alone.{samples_lines-due}
-use Rattle.report_rules.proofs.Later.{due-lines-same}
+use Rattle.report_rules.specs.Report.{Watch}
+use Rattle.report_rules.specs.Replay.{watch, CoversBefore}
+use Rattle.report_rules.proofs.Fronts.{front-covers}
 use Rattle.input_files.specs.Ended.{without_last, rows_ended, EndsNoRow, TakesHeader, begun_with, begun_under, files_begun}
-use Rattle.input_files.specs.Files.{most_telemetry, with_telemetry}
+use Rattle.input_files.specs.Files.{Files, most_telemetry, with_telemetry}
 use Rattle.input_files.specs.Stream.{BothTold}
 use Rattle.input_files.specs.Told.{OnBytes}
 use Rattle.input_files.specs.Whole.{most_piece}
@@ -24,12 +22,9 @@ use Rattle.input_files.specs.declared.model.ModelEnding.TheVariants as models
 use Rattle.input_files.specs.declared.stream.StreamFault.{StreamFault}
 use Rattle.input_files.specs.declared.stream.StreamFault.TheVariants as stream
 use Rattle.input_files.proofs.Streams.{told-then}
-use Rattle.monitor_run.specs.Rows.{due_lines}
-use Rattle.monitor_run.specs.InTime.{rows_begun, report_begun, begun_of, lines_begun}
-use Rattle.monitor_run.proofs.Turns.{lines-longer}
 use Rattle.monitor_run.proofs.Opened.{if-some, of-some}
 use Rattle.monitor_run.proofs.InTime.{InTime, IsFrontOf, before-next, both-some, some-both, side, false-or-true}
-use Rattle.cert_replay.specs.Ahead.{RefusesInTime, RowsRefuseInTime, IsBehind}
+use Rattle.cert_replay.specs.Ahead.{begun_watch, IsBehindBegun, RefusesInTime, RowsRefuseInTime, IsBehind}
 use Rattle.cert_replay.specs.Checked.{Checked}
 use Rattle.cert_replay.specs.Ends.{AreNamed, EndDeparts}
 use Rattle.cert_replay.specs.Faults.{IsReportFault, model_fault, telemetry_fault, report_fault}
@@ -61,51 +56,37 @@ report-behind (Read slot) is lines = λ line e. absurd cc
 report-behind (Report line) is lines = absurd is
 report-behind Memory is lines = λ line e. absurd cc
 
--- ---- how many lines are due
-
--- no more for a front of the samples
-fewer-lines : (ps : List Plant) (first taken : List Sample) → IsFrontOf first taken → length (due_lines ps first (length first)) ≤ length (due_lines ps taken (length taken))
-fewer-lines ps first taken (more, is) =
-    let longer = lines-longer ps (first ++ more) (length first) (length more) in
-    let same : length (due_lines ps (first ++ more) (length first)) ≡ length (due_lines ps first (length first)) = ap length (due-lines-same ps first more (length first) (omega arith)) in
-    let all : length (due_lines ps taken (length taken)) ≡ length (due_lines ps (first ++ more) (length first) ++ longer.0) =
-    ap (λ ss. length (due_lines ps ss (length ss))) is ∙ ap (λ n. length (due_lines ps (first ++ more) n)) (length-append first more) ∙ ap length longer.1 in
-    omega (arith, same, all, length-append (due_lines ps (first ++ more) (length first)) longer.0)
-
--- the lines compared are those that are due for the samples taken
-pub compared-due : (names : List (List ℕ)) (ps : List Plant) (taken : List Sample) (bytes : List ℕ) (r : Replay) (s : ShelfState) → Checked names ps taken bytes r s
-    → r.window.lines ≡ length (head_lines names ++ due_lines ps taken (length taken))
-compared-due names ps taken bytes r s checked =
-    checked.lines ∙ ap (λ ls. length (head_lines names ++ ls)) (samples_lines-due ps taken checked.choice (length taken) checked.replayed.allowed)
-
 -- ---- endings over the rows
 
-module _ (head : Columns) (c0 : Cutter) (left0 : List ℕ) (rest0 rest' : Option (List ℕ)) (names : List (List ℕ)) (ps : List Plant) where
-  -- the lines due for the rows without the last k bytes
-  abbrev pub begun : List ℕ → ℕ → List Line
-  begun r k = head_lines names ++ rows_begun ps (rows_ended head c0 (without_last k (left0 ++ r)))
+module _ (head : Columns) (c0 : Cutter) (left0 : List ℕ) (rest0 rest' : Option (List ℕ)) (names : List (List ℕ)) (ps : List Plant) (bytes : List ℕ) where
+  -- the samples of the rows without the last k bytes
+  abbrev first_of : List ℕ → ℕ → List Sample
+  first_of r k = (rows_ended head c0 (without_last k (left0 ++ r))).samples
+
+  -- the models over them
+  abbrev pub begun : List ℕ → ℕ → Watch
+  begun r k = watch names ps (first_of r k) false
 
   abbrev pub RowsEnd : Result Accepted CheckFault → Type 0
-  RowsEnd result = IfSome rest0 (λ r. IfSome rest' (λ r'. RowsRefuseInTime (begun r) (length (left0 ++ r)) (length r') result))
+  RowsEnd result = IfSome rest0 (λ r. IfSome rest' (λ r'. RowsRefuseInTime (begun r) bytes (length (left0 ++ r)) (length r') result))
 
   module _ (e : Bool) (c : Cutter) (left left' : List ℕ) (rest : Option (List ℕ)) (taken : List Sample)
       (m : BothTold rest0 rest (λ r r'. InTime head e c0 c (left0 ++ r) (left ++ r') taken))
-      (short : length left' ≤ 4096) (none : BothTold rest rest' (λ r r'. EndsNoRow head c (left ++ r) (left' ++ r'))) where
-    line-in_time : (line : ℕ) → length (head_lines names ++ due_lines ps taken (length taken)) < line → RowsEnd (Err (Report line))
-    line-in_time line past = both-some rest0 rest' (λ x z. (k : ℕ) → length (left' ++ z) < k → k ≤ length (left0 ++ x) → IsFrontOf (rows_ended head c0 (without_last k (left0 ++ x))).samples taken)
-        (λ x z. RowsRefuseInTime (begun x) (length (left0 ++ x)) (length z) (Err (Report line)))
-        (λ x z front-of. (omega (arith, past), λ within. fewer x z (front-of (length z + most_piece + 1) (omega (arith, length-append left' z, short)) within)))
+      (short : length left' ≤ 4096) (none : BothTold rest rest' (λ r r'. EndsNoRow head c (left ++ r) (left' ++ r')))
+      (replay : Replay) (s : ShelfState) (now : Checked names ps taken bytes replay s) where
+    line-in_time : (line : ℕ) → replay.window.lines < line → RowsEnd (Err (Report line))
+    line-in_time line past = both-some rest0 rest' (λ x z. (k : ℕ) → length (left' ++ z) < k → k ≤ length (left0 ++ x) → IsFrontOf (first_of x k) taken)
+        (λ x z. RowsRefuseInTime (begun x) bytes (length (left0 ++ x)) (length z) (Err (Report line)))
+        (λ x z front-of. (omega (arith, past), λ within. covers x z (front-of (length z + most_piece + 1) (omega (arith, length-append left' z, short)) within)))
         (told-then rest0 rest rest' (λ x y. InTime head e c0 c (left0 ++ x) (left ++ y) taken) (λ y z. EndsNoRow head c (left ++ y) (left' ++ z))
-        (λ x z. (k : ℕ) → length (left' ++ z) < k → k ≤ length (left0 ++ x) → IsFrontOf (rows_ended head c0 (without_last k (left0 ++ x))).samples taken)
+        (λ x z. (k : ℕ) → length (left' ++ z) < k → k ≤ length (left0 ++ x) → IsFrontOf (first_of x k) taken)
         (λ x y z time none. before-next time (left' ++ z) none) m none)
       where
-        fewer : (x z : List ℕ) → IsFrontOf (rows_ended head c0 (without_last (length z + most_piece + 1) (left0 ++ x))).samples taken → length (begun x (length z + most_piece + 1)) < line
-        fewer x z front =
-            let first = (rows_ended head c0 (without_last (length z + most_piece + 1) (left0 ++ x))).samples in
-            omega (arith, past, fewer-lines ps first taken front, length-append (head_lines names) (due_lines ps taken (length taken)), length-append (head_lines names) (due_lines ps first (length first)))
+        covers : (x z : List ℕ) → IsFrontOf (first_of x (length z + most_piece + 1)) taken → CoversBefore (begun x (length z + most_piece + 1)) line bytes
+        covers x z (more, is) = front-covers names ps taken now.choice bytes now.unread now.replayed (first_of x (length z + most_piece + 1)) more is line (omega (arith, past, now.lines))
 
-    -- a line behind those of the samples taken was refused, where no row had ended before the last byte taken
-    pub ends-in_time : (result : Result Accepted CheckFault) → ((line : ℕ) → result ≡ Err (Report line) → length (head_lines names ++ due_lines ps taken (length taken)) < line) → RowsEnd result
+    -- a line behind those compared was refused, where no row had ended before the last byte taken
+    pub ends-in_time : (result : Result Accepted CheckFault) → ((line : ℕ) → result ≡ Err (Report line) → replay.window.lines < line) → RowsEnd result
     ends-in_time (Ok accepted) h = some-both rest0 rest' _ (λ x z. tt)
     ends-in_time (Err (Model fault)) h = some-both rest0 rest' _ (λ x z. tt)
     ends-in_time (Err (Telemetry fault)) h = some-both rest0 rest' _ (λ x z. tt)
@@ -124,48 +105,48 @@ module _ (head : Columns) (c0 : Cutter) (left0 : List ℕ) (rest0 rest' : Option
   head-in_time same short (Model fault) some = some-both rest0 rest' _ (λ x z. tt)
   head-in_time same short (Telemetry fault) some = some-both rest0 rest' _ (λ x z. tt)
   head-in_time same short (Read slot) some = some-both rest0 rest' _ (λ x z. tt)
-  head-in_time same short (Report line) some = subst (λ o. IfSome rest0 (λ r. IfSome o (λ r'. RowsRefuseInTime (begun r) (length (left0 ++ r)) (length r') (Err (Report line))))) (sym same) (by rest0)
+  head-in_time same short (Report line) some = subst (λ o. IfSome rest0 (λ r. IfSome o (λ r'. RowsRefuseInTime (begun r) bytes (length (left0 ++ r)) (length r') (Err (Report line))))) (sym same) (by rest0)
     where
-      by : (o : Option (List ℕ)) → IfSome o (λ r. IfSome o (λ r'. RowsRefuseInTime (begun r) (length (left0 ++ r)) (length r') (Err (Report line))))
+      by : (o : Option (List ℕ)) → IfSome o (λ r. IfSome o (λ r'. RowsRefuseInTime (begun r) bytes (length (left0 ++ r)) (length r') (Err (Report line))))
       by None = tt
       by (Some r) = (some line refl, λ within. absurd (omega (arith, length-append left0 r, short, within)))
   head-in_time same short Memory some = some-both rest0 rest' _ (λ x z. tt)
 
 -- ---- behind a header
 
-module _ (ms : Models) where
-  abbrev due : List ℕ → ℕ → List Line
-  due t k = begun_of (begun_with ms (without_last k t))
+module _ (ms : Models) (bytes : List ℕ) where
+  -- what the telemetry says without its last k bytes
+  abbrev said : List ℕ → ℕ → Files
+  said t k = begun_with ms (without_last k t)
+
+  -- and its rows, which may go on
+  abbrev rows_watch : Columns → Cutter → List ℕ → ℕ → Watch
+  rows_watch head c unread k = begun_watch ms (rows_ended head c (without_last k unread))
 
   module _ (head : Columns) (e : Bool) (c : Cutter) (t unread : List ℕ) (taken : TakesHeader ms.inputs ms.outputs head e (at_start most_telemetry) c ([] ++ t) unread) where
-    header-in_time : (r : Result Accepted CheckFault) (left : ℕ) → RowsRefuseInTime (λ k. report_begun ms (rows_ended head c (without_last k unread))) (length unread) left r → RefusesInTime (due t) left r
+    header-in_time : (r : Result Accepted CheckFault) (left : ℕ) → RowsRefuseInTime (rows_watch head c unread) bytes (length unread) left r → RefusesInTime (said t) bytes left r
     header-in_time (Ok accepted) left h = tt
     header-in_time (Err (Model fault)) left h = tt
     header-in_time (Err (Telemetry fault)) left h = tt
     header-in_time (Err (Read slot)) left h = tt
     header-in_time (Err (Report line)) left h = by (side (left + most_piece + 1) (length unread)) (false-or-true e)
       where
-        by : (left + most_piece + 1 ≤ length unread) ⊎ (length unread < left + most_piece + 1) → (e ≡ false) ⊎ (e ≡ true) → length (due t (left + most_piece + 1)) < line
-        by (inr past) ended =
-            let none : due t (left + most_piece + 1) ≡ [] = ap (λ (told : Told). begun_of (with_telemetry ms told)) (taken.before (left + most_piece + 1) past) in
-            omega (arith, ap length none, h.0)
-        by (inl few) (inl going) =
-            let same : due t (left + most_piece + 1) ≡ report_begun ms (rows_ended head c (without_last (left + most_piece + 1) unread)) =
-            ap (λ (told : Told). begun_of (with_telemetry ms told)) (taken.header going (left + most_piece + 1) few) in
-            subst (λ ls. length ls < line) (sym same) (h.1 few)
+        by : (left + most_piece + 1 ≤ length unread) ⊎ (length unread < left + most_piece + 1) → (e ≡ false) ⊎ (e ≡ true) → IsBehindBegun line bytes (said t (left + most_piece + 1))
+        by (inr past) ended = subst (IsBehindBegun line bytes) (sym (ap (with_telemetry ms) (taken.before (left + most_piece + 1) past))) h.0
+        by (inl few) (inl going) = subst (IsBehindBegun line bytes) (sym (ap (with_telemetry ms) (taken.header going (left + most_piece + 1) few))) (h.1 few)
         by (inl few) (inr ended) = let none = ap length (taken.ended ended) in absurd (omega (arith, none, few))
     header-in_time (Err Memory) left h = tt
 
   -- the rows behind the header, and the telemetry from its first byte
   pub behind-header : (head : Columns) (e : Bool) (c : Cutter) (left : List ℕ) (file opened rest rest' : Option (List ℕ)) → opened ≡ file → (r : Result Accepted CheckFault)
       → BothTold opened rest (λ t q. TakesHeader ms.inputs ms.outputs head e (at_start most_telemetry) c ([] ++ t) (left ++ q))
-      → IfSome rest (λ q. IfSome rest' (λ q'. RowsRefuseInTime (λ k. report_begun ms (rows_ended head c (without_last k (left ++ q)))) (length (left ++ q)) (length q') r))
-      → IfSome file (λ t. IfSome rest' (λ q'. RefusesInTime (due t) (length q') r))
-  behind-header head e c left file opened rest rest' is r taken time = subst (λ f. IfSome f (λ t. IfSome rest' (λ q'. RefusesInTime (due t) (length q') r))) is (by opened rest rest' taken time)
+      → IfSome rest (λ q. IfSome rest' (λ q'. RowsRefuseInTime (rows_watch head c (left ++ q)) bytes (length (left ++ q)) (length q') r))
+      → IfSome file (λ t. IfSome rest' (λ q'. RefusesInTime (said t) bytes (length q') r))
+  behind-header head e c left file opened rest rest' is r taken time = subst (λ f. IfSome f (λ t. IfSome rest' (λ q'. RefusesInTime (said t) bytes (length q') r))) is (by opened rest rest' taken time)
     where
       by : (opened rest rest' : Option (List ℕ)) → BothTold opened rest (λ t q. TakesHeader ms.inputs ms.outputs head e (at_start most_telemetry) c ([] ++ t) (left ++ q))
-          → IfSome rest (λ q. IfSome rest' (λ q'. RowsRefuseInTime (λ k. report_begun ms (rows_ended head c (without_last k (left ++ q)))) (length (left ++ q)) (length q') r))
-          → IfSome opened (λ t. IfSome rest' (λ q'. RefusesInTime (due t) (length q') r))
+          → IfSome rest (λ q. IfSome rest' (λ q'. RowsRefuseInTime (rows_watch head c (left ++ q)) bytes (length (left ++ q)) (length q') r))
+          → IfSome opened (λ t. IfSome rest' (λ q'. RefusesInTime (said t) bytes (length q') r))
       by None rest rest' taken time = tt
       by (Some t) None rest' taken time = absurd taken
       by (Some t) (Some q) None taken time = tt
@@ -174,34 +155,37 @@ module _ (ms : Models) where
 -- ---- without a header, and without a file
 
 -- the telemetry gave no header, or could not be opened
-pub no-header-in_time : (f : StreamFault) (file rest' : Option (List ℕ)) (due : List ℕ → ℕ → List Line) → IfSome file (λ t. IfSome rest' (λ q. RefusesInTime (due t) (length q) (Err (telemetry_fault f))))
-no-header-in_time (stream.Refused fault) file rest' due = some-both file rest' _ (λ t q. tt)
-no-header-in_time stream.Read file rest' due = some-both file rest' _ (λ t q. tt)
-no-header-in_time stream.Memory file rest' due = some-both file rest' _ (λ t q. tt)
+pub no-header-in_time : (f : StreamFault) (file rest' : Option (List ℕ)) (said : List ℕ → ℕ → Files) (bytes : List ℕ)
+    → IfSome file (λ t. IfSome rest' (λ q. RefusesInTime (said t) bytes (length q) (Err (telemetry_fault f))))
+no-header-in_time (stream.Refused fault) file rest' said bytes = some-both file rest' _ (λ t q. tt)
+no-header-in_time stream.Read file rest' said bytes = some-both file rest' _ (λ t q. tt)
+no-header-in_time stream.Memory file rest' said bytes = some-both file rest' _ (λ t q. tt)
 
 -- the report could not be opened
-pub no-report-in_time : (f : GetFault) (file rest' : Option (List ℕ)) (due : List ℕ → ℕ → List Line) → IfSome file (λ t. IfSome rest' (λ q. RefusesInTime (due t) (length q) (Err (report_fault f))))
-no-report-in_time get.Failed file rest' due = some-both file rest' _ (λ t q. tt)
-no-report-in_time get.Memory file rest' due = some-both file rest' _ (λ t q. tt)
+pub no-report-in_time : (f : GetFault) (file rest' : Option (List ℕ)) (said : List ℕ → ℕ → Files) (bytes : List ℕ)
+    → IfSome file (λ t. IfSome rest' (λ q. RefusesInTime (said t) bytes (length q) (Err (report_fault f))))
+no-report-in_time get.Failed file rest' said bytes = some-both file rest' _ (λ t q. tt)
+no-report-in_time get.Memory file rest' said bytes = some-both file rest' _ (λ t q. tt)
 
 -- the model file gave no models
-pub no-models-in_time : (f : ModelEnding) (report model telemetry rest' : Option (List ℕ)) → IfSome report (λ bytes. OnBytes model telemetry (λ m t. IfSome rest' (λ q. RefusesInTime (lines_begun m t) (length q) (Err (model_fault f)))))
-no-models-in_time f report model telemetry rest' = of-some report _ (λ bytes. some-both model telemetry _ (λ m t. of-some rest' _ (λ q. by f m t q)))
+pub no-models-in_time : (f : ModelEnding) (report model telemetry rest' : Option (List ℕ))
+    → IfSome report (λ bytes. OnBytes model telemetry (λ m t. IfSome rest' (λ q. RefusesInTime (λ k. files_begun m (without_last k t)) bytes (length q) (Err (model_fault f)))))
+no-models-in_time f report model telemetry rest' = of-some report _ (λ bytes. some-both model telemetry _ (λ m t. of-some rest' _ (λ q. by f m t q bytes)))
   where
-    by : (f : ModelEnding) (m t q : List ℕ) → RefusesInTime (lines_begun m t) (length q) (Err (model_fault f))
-    by (models.Refused fault) m t q = tt
-    by models.Read m t q = tt
-    by models.Memory m t q = tt
+    by : (f : ModelEnding) (m t q bytes : List ℕ) → RefusesInTime (λ k. files_begun m (without_last k t)) bytes (length q) (Err (model_fault f))
+    by (models.Refused fault) m t q bytes = tt
+    by models.Read m t q bytes = tt
+    by models.Memory m t q bytes = tt
 
 -- what is said under the models of the model file, which are named, is said of its bytes
 pub with-models-in_time : (ms : Models) (report model telemetry rest' : Option (List ℕ)) (r : Result Accepted CheckFault) → IfSome model (λ m. models_of m ≡ Ok ms)
-    → (AreNamed (names_in ms) → IfSome report (λ bytes. IfSome telemetry (λ t. IfSome rest' (λ q. RefusesInTime (λ k. begun_of (begun_with ms (without_last k t))) (length q) r))))
-    → IfSome report (λ bytes. OnBytes model telemetry (λ m t. IfSome rest' (λ q. RefusesInTime (lines_begun m t) (length q) r)))
+    → (AreNamed (names_in ms) → IfSome report (λ bytes. IfSome telemetry (λ t. IfSome rest' (λ q. RefusesInTime (λ k. begun_with ms (without_last k t)) bytes (length q) r))))
+    → IfSome report (λ bytes. OnBytes model telemetry (λ m t. IfSome rest' (λ q. RefusesInTime (λ k. files_begun m (without_last k t)) bytes (length q) r)))
 unfolding files_begun
 with-models-in_time ms None model telemetry rest' r read h = tt
 with-models-in_time ms (Some bytes) None telemetry rest' r read h = tt
 with-models-in_time ms (Some bytes) (Some m) telemetry rest' r read h =
-    if-some telemetry _ _ (λ t p. subst (λ ms. IfSome rest' (λ q. RefusesInTime (λ k. begun_of (begun_under ms (without_last k t))) (length q) r)) (sym read) p) (h (are-named m ms read))
+    if-some telemetry _ _ (λ t p. subst (λ ms. IfSome rest' (λ q. RefusesInTime (λ k. begun_under ms (without_last k t)) bytes (length q) r)) (sym read) p) (h (are-named m ms read))
 
 -- a claim under a premise, where a file is told
 pub left-last : (file : Option (List ℕ)) (A : Type 0) (P : List ℕ → Type 0) → (A → IfSome file P) → IfSome file (λ bytes. A → P bytes)

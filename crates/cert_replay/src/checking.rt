@@ -1,5 +1,5 @@
 //! A check from its three files to its answer.
-ghost use Rattle.std.specs.Prelude.{◌≡◌, ℕ, ◌+◌, ◌≤◌, ◌<◌, ◌^◌, List, [], ◌++◌, length, replicate, true, false};
+ghost use Rattle.std.specs.Prelude.{◌≡◌, ℕ, ◌+◌, ◌≤◌, ◌<◌, ◌^◌, List, [], length, replicate, true, false};
 ghost use Rattle.std.specs.Prelude.{None, Some, IfErr, IfOk, OnOk};
 ghost use Rattle.std.specs.Io.KnownBytes.{IsAtEnd};
 ghost use Rattle.outside_io.specs.Causes.{Rose};
@@ -11,14 +11,13 @@ ghost use Rattle.telem_csv.specs.Fed.{is_refusal};
 ghost use Rattle.model_bank.specs.Bank.{plants_in, names_in};
 ghost use Rattle.input_files.specs.Files.{files_with, most_telemetry};
 ghost use Rattle.input_files.specs.Stream.{OnRows, ReadsOn, IsEndedAt};
-ghost use Rattle.input_files.specs.Ended.{without_last, rows_ended, begun_with};
+ghost use Rattle.input_files.specs.Ended.{without_last, rows_ended, begun_with, files_begun};
 ghost use Rattle.input_files.specs.Told.{OnFile};
 ghost use Rattle.input_files.specs.Whole.{TakesAtMost, most_model, most_piece};
 ghost use Rattle.monitor_run.specs.InTime.{OnTaken, OnUnreadLeft};
-ghost use Rattle.monitor_run.specs.InTime.{begun_of, lines_begun, report_begun, rows_begun};
-ghost use Rattle.report_rules.specs.Lines.{head_lines};
+ghost use Rattle.report_rules.specs.Replay.{watch};
 ghost use Rattle.cert_replay.specs.Outcome.{OnReport, SaysOfModel, SaysOfReport, IfRead, ReadsFailed, AllRead, AsksInOrder};
-ghost use Rattle.cert_replay.specs.Ahead.{OnReportLeft, RefusesInTime, RowsRefuseInTime};
+ghost use Rattle.cert_replay.specs.Ahead.{OnReportLeft, RefusesInTime, RowsRefuseInTime, begun_watch};
 ghost use Rattle.cert_replay.specs.Faults.{IsSampleFault};
 ghost use Rattle.cert_replay.specs.Lines.{room};
 ghost use Rattle.cert_replay.specs.Window.{HasUnread};
@@ -53,7 +52,7 @@ pub fn check<F: Shelf>(
 
     // Where the report is refused, the telemetry was read to the line that judges the refused one, and a piece at most past it.
     ensures in_time { OnReportLeft (F.state shelf.old) (F.state shelf.new) model.now telemetry.now report.now
-        (λ m t left. RefusesInTime (lines_begun m t) left result) }
+        (λ m t bytes left. RefusesInTime (λ k. files_begun m (without_last k t)) bytes left result) }
     ensures model_taken { TakesAtMost (most_model + most_piece)
         ((F.state shelf.old).file model.now) ((F.state shelf.new).slot 0) }
     ensures read { IfRead result (ReadsFailed model.now telemetry.now report.now (F.state shelf.old) (F.state shelf.new)) }
@@ -78,7 +77,7 @@ fn check_models<F: Shelf>(
         OnFile (F.state shelf.old) telemetry.now (λ t. SaysOfReport result (files_with models t) bytes)) }
     ensures in_time { AreNamed (names_in models) → OnFile (F.state shelf.old) report.now (λ bytes.
         OnTaken (F.state shelf.old) (F.state shelf.new) telemetry.now (λ t left. RefusesInTime
-        (λ k. begun_of (begun_with models (without_last k t))) left result)) }
+        (λ k. begun_with models (without_last k t)) bytes left result)) }
     ensures ends { EndsModels telemetry.now report.now (F.state shelf.old) (F.state shelf.new) result }
 {
     match shelf.attach(TELEMETRY_SLOT, telemetry) {
@@ -110,8 +109,8 @@ fn check_report<F: Shelf>(
         (λ rows. SaysOfChecked (names_in models) (plants_in models) result rows bytes) }
     ensures in_time { AreNamed (names_in models) → (bytes : List ℕ) → ((F.state shelf.old).slot 2).rest ≡ Some bytes
         → OnUnreadLeft stream.old (F.state shelf.old) (F.state shelf.new) (λ unread left. RowsRefuseInTime
-        (λ k. report_begun models (rows_ended head.now stream.old.cutter (without_last k unread)))
-        (length unread) left result) }
+        (λ k. begun_watch models (rows_ended head.now stream.old.cutter (without_last k unread)))
+        bytes (length unread) left result) }
     ensures ends { EndsRows (F.state shelf.old) (F.state shelf.new) result }
 {
     let mut window = Window::new();
@@ -188,8 +187,8 @@ fn check_rows<F: Shelf>(
     ensures in_time { (names : List (List ℕ)) (ps : List Plant) (bytes : List ℕ) → AreModels names ps replay.old.counts
         → Checked names ps [] bytes replay.old (F.state shelf.old)
         → OnUnreadLeft stream.old (F.state shelf.old) (F.state shelf.new) (λ unread left. RowsRefuseInTime
-        (λ k. head_lines names ++ rows_begun ps (rows_ended head.now stream.old.cutter (without_last k unread)))
-        (length unread) left result) }
+        (λ k. watch names ps (rows_ended head.now stream.old.cutter (without_last k unread)).samples false)
+        bytes (length unread) left result) }
     ensures ends { EndsRows (F.state shelf.old) (F.state shelf.new) result }
 {
     'rows: loop {

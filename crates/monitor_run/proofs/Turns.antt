@@ -1,5 +1,5 @@
 -- The turns of a run over the rows of a telemetry.
-use Rattle.std.proofs.Common.{◌≡◌, ℕ, ◌+◌, zero, suc, List, [], ◌∷◌, ◌++◌, length, Option, Some, None, IfSome, Result, Ok, Err, IfOk, IfErr, OnOk, OnErr, refl, sym, ap, ◌∙◌, subst, arith, append_assoc, append-nil, length-append, is_none, replicate, true}
+use Rattle.std.proofs.Common.{◌≡◌, ℕ, ◌+◌, List, [], ◌∷◌, ◌++◌, length, Option, Some, None, IfSome, Result, Ok, Err, IfOk, IfErr, OnOk, OnErr, refl, sym, ap, ◌∙◌, subst, arith, append_assoc, append-nil, length-append, is_none, replicate, true}
 use Rattle.outside_io.specs.Sink.{SinkState, Gains, GainsFront}
 use Rattle.outside_io.proofs.Grows.{appends_more, appends_none}
 use Rattle.outside_io.proofs.Fronts.{front-after, front-before, whole-front}
@@ -9,10 +9,11 @@ use Rattle.telem_csv.specs.Cutter.{Cutter, rows_owed}
 use Rattle.telem_csv.specs.Rows.{Rows, no_rows, refused_rows}
 use Rattle.telem_csv.specs.declared.fault.TelemFault.{TelemFault}
 use Rattle.observer_step.specs.SetsAnswers.{sets_observer}
-use Rattle.model_bank.specs.Answers.{SampleAnswer, sample_answer}
+use Rattle.model_bank.specs.Answers.{SampleAnswer}
 use Rattle.model_bank.specs.Bank.{Bank, BankStands}
 use Rattle.report_text.specs.Line.{Line, lines_text, put_text, end}
 use Rattle.input_files.proofs.Streams.{told-then}
+use Rattle.report_rules.proofs.Fronts.{samples_lines-begin}
 use Rattle.report_rules.proofs.Later.{due-lines-same, due-lines-more, due-lives-more}
 use Rattle.std.proofs.lemmas.Grind.{flat_map-append}
 use Rattle.report_rules.specs.Lines.{sample_lines, last_lines}
@@ -51,14 +52,7 @@ lines-append xs ys = flat_map-append put_text xs ys
 
 -- more samples put more lines behind those of the first ones
 pub lines-longer : (ps : List Plant) (samples : List Sample) (n j : ℕ) → (tail : List Line) × (due_lines ps samples (n + j) ≡ due_lines ps samples n ++ tail)
-unfolding samples_lines
-lines-longer ps samples n zero = let e : n + 0 ≡ n = omega arith in ([], rw e (sym (append-nil (due_lines ps samples n))))
-lines-longer ps samples n (suc j) =
-    let before = lines-longer ps samples n j in
-    let e : n + suc j ≡ suc (n + j) = omega arith in
-    let c = due_choice sets_observer ps samples in
-    let last = sample_lines (sample_answer sets_observer ps (lives_before c (length ps) (n + j)) (c (n + j)) samples (n + j)) in
-    (before.0 ++ last, ap (due_lines ps samples) e ∙ ap (λ ls. ls ++ last) before.1 ∙ append_assoc (due_lines ps samples n) before.0 last)
+lines-longer ps samples n j = samples_lines-begin sets_observer ps samples (due_choice sets_observer ps samples) n j
 
 -- the lines of the samples taken are a front of those of all rows
 rows-longer : (ps : List Plant) (taken : List Sample) (rows : Rows) → (tail : List Line) × (rows_lines ps (behind taken rows) ≡ due_lines ps taken (length taken) ++ tail)

@@ -11,3 +11,4 @@ pub mod Departs
 pub mod Replays
 pub mod Offered
 pub mod Ranged
+pub mod Fronts

@@ -1,5 +1,5 @@
 -- What is known of the text of a report in the middle of its check.
-use Rattle.std.specs.Prelude.{◌≡◌, ◌≢◌, ◌⊎◌, ℕ, ◌+◌, ◌≤◌, ◌==◌, nat_le, Bool, true, false, not, ◌&&◌, if◌then◌else◌, List, [], ◌∷◌, ◌++◌, length, drop, flat_map, Option, Some, None, is_some}
+use Rattle.std.specs.Prelude.{◌≡◌, ◌≢◌, ◌⊎◌, ℕ, ◌+◌, ◌<◌, ◌≤◌, ◌==◌, nat_le, Bool, true, false, not, ◌&&◌, if◌then◌else◌, List, [], ◌∷◌, ◌++◌, length, drop, flat_map, Option, Some, None, is_some}
 use Rattle.std.specs.List.{All, list_any, list_all}
 use Rattle.farkas_check.specs.Certificate.{Certificate}
 use Rattle.plant_model.specs.Plant.{Plant, Sample}
@@ -93,3 +93,7 @@ Satisfies w bytes = SatisfiesBy w.is_whole w bytes
 pub record DepartsAt (w : Watch) (n : ℕ) (bytes : List ℕ) : Type 0 where
   pub first_bad : IsFirstBad any_justified sets_observer w n bytes
   pub not_satisfied : ¬ Satisfies w bytes
+
+-- the bytes begin with all lines of a justified report, and line n, from 1, is behind them
+abbrev pub CoversBefore : Watch → ℕ → List ℕ → Type 0
+CoversBefore w n bytes = (covers : Covers any_justified sets_observer w bytes) × (length covers.0 < n)

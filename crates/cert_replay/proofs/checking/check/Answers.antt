@@ -5,7 +5,6 @@ use Rattle.cert_replay.specs.Outcome.{SaysOfReport}
 use Rattle.cert_replay.proofs.Said.{with-named, accepted-said, model-said, model-ends}
 use Rattle.input_files.specs.Ended.{without_last, begun_with}
 use Rattle.input_files.specs.Whole.{TakesAtMost, most_model, most_piece}
-use Rattle.monitor_run.specs.InTime.{begun_of}
 use Rattle.monitor_run.proofs.Opened.{if-some}
 use Rattle.cert_replay.specs.Ahead.{RefusesInTime}
 use Rattle.cert_replay.proofs.Ahead.{left-last, with-models-in_time, no-models-in_time}
@@ -54,9 +53,9 @@ returns-clause-in_time g c =
     let files = c.in_ok-models.ensures.others.files in
     left-last (shelf.file c.args.report.now) _ _ (λ attached.
     with-models-in_time ms (shelf.file c.args.report.now) (shelf.file c.args.model.now) (shelf.file c.args.telemetry.now) last.rest result c.in_ok-models.ensures.read_all
-    (λ named. if-some (shelf.file c.args.report.now) (λ bytes. last.attached ≡ true → IfSome (shelf.file c.args.telemetry.now) (λ t. IfSome last.rest (λ q. RefusesInTime (λ k. begun_of (begun_with ms (without_last k t))) (length q) result))) _ (λ bytes h. h attached)
-    (subst (λ f. IfSome (shelf.file c.args.report.now) (λ bytes. last.attached ≡ true → IfSome f (λ t. IfSome last.rest (λ q. RefusesInTime (λ k. begun_of (begun_with ms (without_last k t))) (length q) result)))) (files c.args.telemetry.now)
-    (subst (λ f. IfSome f (λ bytes. last.attached ≡ true → IfSome (mid.file c.args.telemetry.now) (λ t. IfSome last.rest (λ q. RefusesInTime (λ k. begun_of (begun_with ms (without_last k t))) (length q) result)))) (files c.args.report.now) (c.check_models.ensures.in_time named)))))
+    (λ named. if-some (shelf.file c.args.report.now) (λ bytes. last.attached ≡ true → IfSome (shelf.file c.args.telemetry.now) (λ t. IfSome last.rest (λ q. RefusesInTime (λ k. begun_with ms (without_last k t)) bytes (length q) result))) _ (λ bytes h. h attached)
+    (subst (λ f. IfSome (shelf.file c.args.report.now) (λ bytes. last.attached ≡ true → IfSome f (λ t. IfSome last.rest (λ q. RefusesInTime (λ k. begun_with ms (without_last k t)) bytes (length q) result)))) (files c.args.telemetry.now)
+    (subst (λ f. IfSome f (λ bytes. last.attached ≡ true → IfSome (mid.file c.args.telemetry.now) (λ t. IfSome last.rest (λ q. RefusesInTime (λ k. begun_with ms (without_last k t)) bytes (length q) result)))) (files c.args.report.now) (c.check_models.ensures.in_time named)))))
 
 pub returns-in_err-models-clause-in_time : goal.returns-in_err-models-clause-in_time
 returns-in_err-models-clause-in_time g c =

@@ -9,7 +9,6 @@ use Rattle.monitor_run.proofs.Opened.{if-some, of-some, with-rows}
 use Rattle.cert_replay.specs.Outcome.{SaysOfReport}
 use Rattle.cert_replay.proofs.Said.{where-told, rows-said, report-said, opened-said, no-header-said}
 use Rattle.input_files.specs.Ended.{without_last, begun_with}
-use Rattle.monitor_run.specs.InTime.{begun_of}
 use Rattle.cert_replay.proofs.Ahead.{behind-header, no-header-in_time, no-report-in_time}
 use Rattle.cert_replay.proofs.checking.check_models.Goals as goal
 
@@ -67,7 +66,7 @@ returns-clause-in_time g c = λ named.
     let report = ap (λ (x : SlotState). x.rest) (c.find_header.ensures.kept.others.slots 2 (omega arith) (omega arith))
     ∙ c.in_ok-attach.ensures.here.begins ∙ c.in-Ok.ensures.others.files c.args.report.now ∙ told in
     let telemetry = ap (λ (x : SlotState). x.rest) (c.in_ok-attach.ensures.others.slots 1 (omega arith) (omega arith)) ∙ c.in-Ok.ensures.here.begins in
-    behind-header ms c.in_ok-head.head c.find_header.new.stream.is_ended c.find_header.new.stream.cutter (left_of c.find_header.new.stream)
+    behind-header ms bytes c.in_ok-head.head c.find_header.new.stream.is_ended c.find_header.new.stream.cutter (left_of c.find_header.new.stream)
     (before.file c.args.telemetry.now) (both.slot 1).rest (behind.slot 1).rest (after.slot 1).rest telemetry c.check_report.result
     (rw (c.new-stream.ensures.cutter, c.new-stream.ensures.left, c.inputs.ensures.value, c.outputs.ensures.value) at c.in_ok-head.ensures.takes)
     (c.check_report.ensures.in_time named bytes report))
@@ -78,7 +77,7 @@ returns-in_err-head-clause-in_time g c = λ named.
     let p = err_from_is_err_and c.from_residual-in_err-head.result c.from_residual-in_err-head.ensures.1 in
     rw (p.1, p.2)
     (of-some (before.file c.args.report.now) _ (λ bytes _.
-    no-header-in_time c.in_err-head.field-0.0 (before.file c.args.telemetry.now) ((g.F.Shelf.state c.find_header.new.shelf).slot 1).rest (λ t k. begun_of (begun_with c.args.models (without_last k t)))))
+    no-header-in_time c.in_err-head.field-0.0 (before.file c.args.telemetry.now) ((g.F.Shelf.state c.find_header.new.shelf).slot 1).rest (λ t k. begun_with c.args.models (without_last k t)) bytes))
 
 pub returns-in_err-attach-clause-in_time : goal.returns-in_err-attach-clause-in_time
 returns-in_err-attach-clause-in_time g c = λ named.
@@ -86,11 +85,11 @@ returns-in_err-attach-clause-in_time g c = λ named.
     let p = err_from_is_err_and c.from_residual.result c.from_residual.ensures.1 in
     rw (p.1, p.2)
     (of-some (before.file c.args.report.now) _ (λ bytes _.
-    no-report-in_time c.in_err-attach.field-0.0 (before.file c.args.telemetry.now) ((g.F.Shelf.state c.attach-2.new.self).slot 1).rest (λ t k. begun_of (begun_with c.args.models (without_last k t)))))
+    no-report-in_time c.in_err-attach.field-0.0 (before.file c.args.telemetry.now) ((g.F.Shelf.state c.attach-2.new.self).slot 1).rest (λ t k. begun_with c.args.models (without_last k t)) bytes))
 
 pub returns-in-Err-clause-in_time : goal.returns-in-Err-clause-in_time
 returns-in-Err-clause-in_time g c = λ named.
     let before = g.F.Shelf.state c.args.shelf.now in
     rw (c.into.ensures, c.from.ensures)
     (of-some (before.file c.args.report.now) _ (λ bytes _.
-    no-header-in_time (stream_fault c.in-Err.fault) (before.file c.args.telemetry.now) ((g.F.Shelf.state c.attach.new.self).slot 1).rest (λ t k. begun_of (begun_with c.args.models (without_last k t)))))
+    no-header-in_time (stream_fault c.in-Err.fault) (before.file c.args.telemetry.now) ((g.F.Shelf.state c.attach.new.self).slot 1).rest (λ t k. begun_with c.args.models (without_last k t)) bytes))

@@ -63,7 +63,7 @@ returns-in_err-check_head-clause-in_time g c = λ named bytes told.
     let telemetry : after.slot 1 ≡ shelf.slot 1 = c.check_head.ensures.kept.others.slots 1 (omega arith) (omega arith) in
     let p = err_from_is_err_and c.from_residual.result c.from_residual.ensures.1 in
     rw (p.1, p.2)
-    (head-in_time c.args.head.now c.args.stream.now.cutter (left_of c.args.stream.now) (shelf.slot 1).rest (after.slot 1).rest (names_in m) (plants_in m) (ap (λ (x : SlotState). x.rest) telemetry)
+    (head-in_time c.args.head.now c.args.stream.now.cutter (left_of c.args.stream.now) (shelf.slot 1).rest (after.slot 1).rest (names_in m) (plants_in m) bytes (ap (λ (x : SlotState). x.rest) telemetry)
     (piece-short c.args.stream.now.piece c.args.stream.now.at c.args.stream.now.end c.args.stream.now.short) c.in_err-check_head.field-0.0
     (λ line e. let departs = c.in_err-check_head.ensures.departs named bytes u line e (plants_in m) [] true in omega (arith, departs.first_bad.some)))
 
@@ -80,7 +80,7 @@ returns-in-Ok-clause-in_time g c = λ named bytes told.
     let possible = c.all_possible-last.ensures ∙ ap (λ n. replicate n true) (c.count.ensures.value ∙ sym (length-plants m)) in
     let begun = begun-checked names ps bytes _ after head c.in-Ok.ensures.stands possible in
     let models = are-models m c.of-counts.result c.count.ensures.limits c.of-counts.ensures in
-    subst (λ (x : SlotState). RowsEnd c.args.head.now c.args.stream.now.cutter (left_of c.args.stream.now) x.rest ((g.F.Shelf.state c.check_rows.new.shelf).slot 1).rest names ps c.check_rows.result) telemetry
+    subst (λ (x : SlotState). RowsEnd c.args.head.now c.args.stream.now.cutter (left_of c.args.stream.now) x.rest ((g.F.Shelf.state c.check_rows.new.shelf).slot 1).rest names ps bytes c.check_rows.result) telemetry
     (c.check_rows.ensures.in_time names ps bytes models begun)
 
 pub returns-in-Err-clause-in_time : goal.returns-in-Err-clause-in_time

@@ -1,4 +1,4 @@
-use Rattle.std.proofs.Common.{◌≡◌, ◌<◌, [], ◌∷◌, ◌++◌, true, Err, refl, sym, ap, ◌∙◌, arith, rules, subst}
+use Rattle.std.proofs.Common.{◌≡◌, [], ◌∷◌, ◌++◌, true, Err, refl, sym, ap, ◌∙◌, arith, rules, subst}
 use Rattle.std.proofs.lemmas.Result.{err_from_is_err_and}
 use Rattle.outside_io.specs.Shelf.{SlotState}
 use Rattle.plant_model.specs.Seen.{sample_of}
@@ -14,7 +14,7 @@ use Rattle.cert_replay.proofs.Turned.{no-turn, one-turn, turn-fault, turn-refuse
 use Rattle.input_files.specs.Ended.{TakesRow, EndsNoRow}
 use Rattle.input_files.proofs.Streams.{told-then, both-told}
 use Rattle.monitor_run.proofs.InTime.{InTime, in_time-init, one-in_time, piece-short}
-use Rattle.cert_replay.proofs.Ahead.{compared-due, ends-in_time, stream-in_time, end-after, RowsEnd}
+use Rattle.cert_replay.proofs.Ahead.{ends-in_time, stream-in_time, end-after, RowsEnd}
 use Rattle.cert_replay.proofs.checking.check_rows.Goals as goal
 
 pub rows-init : goal.rows-init
@@ -119,18 +119,17 @@ returns-in-None-clause-in_time g c = λ names ps bytes models begun.
     let telemetry : after.slot 1 ≡ next.slot 1 = c.check_end.ensures.kept.others.slots 1 (omega arith) (omega arith) in
     let now = inv.taken.1.checked names ps bytes models begun in
     let w = c.rows.replay.window in
-    subst (λ (x : SlotState). RowsEnd c.args.head.now c.args.stream.now.cutter (left_of c.args.stream.now) rest0 x.rest names ps c.check_end.result) (sym telemetry)
-    (ends-in_time c.args.head.now c.args.stream.now.cutter (left_of c.args.stream.now) rest0 (next.slot 1).rest names ps
+    subst (λ (x : SlotState). RowsEnd c.args.head.now c.args.stream.now.cutter (left_of c.args.stream.now) rest0 x.rest names ps bytes c.check_end.result) (sym telemetry)
+    (ends-in_time c.args.head.now c.args.stream.now.cutter (left_of c.args.stream.now) rest0 (next.slot 1).rest names ps bytes
     c.rows.stream.is_ended c.rows.stream.cutter (left_of c.rows.stream) (left_of c.next_row.new.stream) (before.slot 1).rest inv.taken.0 inv.taken.2
-    (piece-short c.next_row.new.stream.piece c.next_row.new.stream.at c.next_row.new.stream.end c.next_row.new.stream.short) none c.check_end.result
-    (λ line e. subst (λ n. n < line) (compared-due names ps inv.taken.0 bytes c.rows.replay before now)
-    (end-after _ w.lines now.unread line (if-err-at c.check_end.result _ _ c.check_end.ensures.departs e line refl now.unread (unread-same w before next report now.unread now.left)))))
+    (piece-short c.next_row.new.stream.piece c.next_row.new.stream.at c.next_row.new.stream.end c.next_row.new.stream.short) none c.rows.replay before now c.check_end.result
+    (λ line e. end-after _ w.lines now.unread line (if-err-at c.check_end.result _ _ c.check_end.ensures.departs e line refl now.unread (unread-same w before next report now.unread now.left))))
 
 pub returns-in_err-sample-clause-in_time : goal.returns-in_err-sample-clause-in_time
 returns-in_err-sample-clause-in_time g c = λ names ps bytes models begun.
     let p = err_from_is_err_and c.from_residual.result c.from_residual.ensures.1 in
     rw (p.1, p.2)
-    (stream-in_time c.args.head.now c.args.stream.now.cutter (left_of c.args.stream.now) ((g.F.Shelf.state c.args.shelf.now).slot 1).rest ((g.F.Shelf.state c.next_row.new.shelf).slot 1).rest names ps c.in_err-sample.field-0.0)
+    (stream-in_time c.args.head.now c.args.stream.now.cutter (left_of c.args.stream.now) ((g.F.Shelf.state c.args.shelf.now).slot 1).rest ((g.F.Shelf.state c.next_row.new.shelf).slot 1).rest names ps bytes c.in_err-sample.field-0.0)
 
 pub returns-in_err-check_sample-in-Some-clause-in_time : goal.returns-in_err-check_sample-in-Some-clause-in_time
 returns-in_err-check_sample-in-Some-clause-in_time g c = λ names ps bytes models begun.
@@ -146,11 +145,11 @@ returns-in_err-check_sample-in-Some-clause-in_time g c = λ names ps bytes model
     let p = err_from_is_err_and c.from_residual-in_err-check_sample-in-Some.result c.from_residual-in_err-check_sample-in-Some.ensures.1 in
     let fault = c.in_err-check_sample-in-Some.field-0.0 in
     rw (p.1, p.2)
-    (subst (λ (x : SlotState). RowsEnd c.args.head.now c.args.stream.now.cutter (left_of c.args.stream.now) rest0 x.rest names ps (Err fault)) (sym telemetry)
-    (ends-in_time c.args.head.now c.args.stream.now.cutter (left_of c.args.stream.now) rest0 (next.slot 1).rest names ps
+    (subst (λ (x : SlotState). RowsEnd c.args.head.now c.args.stream.now.cutter (left_of c.args.stream.now) rest0 x.rest names ps bytes (Err fault)) (sym telemetry)
+    (ends-in_time c.args.head.now c.args.stream.now.cutter (left_of c.args.stream.now) rest0 (next.slot 1).rest names ps bytes
     c.rows.stream.is_ended c.rows.stream.cutter (left_of c.rows.stream) (left_of c.next_row.new.stream) (before.slot 1).rest inv.taken.0 inv.taken.2
     (piece-short c.next_row.new.stream.piece c.next_row.new.stream.at c.next_row.new.stream.end c.next_row.new.stream.short)
     (both-told (before.slot 1).rest (next.slot 1).rest (λ r r'. TakesRow c.args.head.now one c.next_row.new.stream.is_ended c.rows.stream.cutter c.next_row.new.stream.cutter (left_of c.rows.stream ++ r) (left_of c.next_row.new.stream ++ r'))
     (λ r r'. EndsNoRow c.args.head.now c.rows.stream.cutter (left_of c.rows.stream ++ r) (left_of c.next_row.new.stream ++ r')) (λ r r' row. row.before) takes)
-    (Err fault)
-    (λ line e. let same : fault ≡ Report line = cc in subst (λ n. n < line) (compared-due names ps inv.taken.0 bytes c.rows.replay before now) (c.in_err-check_sample-in-Some.ensures.behind line same))))
+    c.rows.replay before now (Err fault)
+    (λ line e. let same : fault ≡ Report line = cc in c.in_err-check_sample-in-Some.ensures.behind line same)))
