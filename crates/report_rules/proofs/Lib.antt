@@ -8,7 +8,7 @@ pub mod Parting
 pub mod Alike
 pub mod Agree
 pub mod Departs
+pub mod Fronts
 pub mod Replays
 pub mod Offered
 pub mod Ranged
-pub mod Fronts

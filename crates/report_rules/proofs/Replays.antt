@@ -18,6 +18,7 @@ use Rattle.report_rules.proofs.Later.{all_allowed-same, lines-same, lives-alike,
 use Rattle.report_rules.proofs.Parting.{BeginsOrParts, parts-like, parts-before, cut-at, next-line}
 use Rattle.report_rules.proofs.Alike.{IsAllowedTo, lines-more, SampleAlike, sample-alike, front-alike}
 use Rattle.report_rules.proofs.Agree.{extended, extended-lines, extended-allowed}
+use Rattle.report_rules.proofs.Fronts.{samples_lines-begin}
 use Rattle.report_rules.proofs.Departs.{IsJustified, report_of, lines_text-append, departs}
 
 -- ---- a choice that is changed at one sample
@@ -151,15 +152,7 @@ module _ (names : List (List ℕ)) (ps : List Plant) (taken : List Sample) (c : 
 
     -- the lines of some samples begin those of more
     lines-begin : (d : Choice) (n extra : ℕ) → (others : List Line) × (first_lines whole d (n + extra) ≡ first_lines whole d n ++ others)
-    lines-begin d n zero = let e : n + 0 ≡ n = omega arith in ([], ap (first_lines whole d) e ∙ sym (append-nil (first_lines whole d n)))
-    lines-begin d n (suc extra) =
-        let before = lines-begin d n extra in
-        let lines = sample_lines (sample_answer sets_observer ps (lives_before d m (n + extra)) (d (n + extra)) whole (n + extra)) in
-        let e : n + suc extra ≡ suc (n + extra) = omega arith in (
-          before.0 ++ lines,
-          ap (first_lines whole d) e ∙ lines-more sets_observer ps whole d (n + extra) ∙ ap (λ ls. ls ++ lines) before.1
-              ∙ append_assoc (first_lines whole d n) before.0 lines,
-        )
+    lines-begin d = samples_lines-begin sets_observer ps whole d
 
     split-whole : whole ≡ taken ++ s ∷ more
     split-whole = append_assoc taken (s ∷ []) more

@@ -6,7 +6,7 @@ ghost use Rattle.plant_model.specs.Plant.{IsReading};
 use arrayvec::ArrayVec;
 use farkas_check::{Cert, Multipliers};
 use fixed_mat::{Mat, Reading};
-use observer_step::{Est, Kept, Outcome, Room, SetPair};
+use observer_step::{Est, Kept, Outcome};
 use plant_model::{Plant, PlantParts, Sample};
 use std::test::Fail;
 
@@ -283,7 +283,7 @@ fn the_least_output_that_misses_is_named(rt: HostRuntime) -> Result<(), Fail> {
     Ok(())
 }
 
-/// No row is kept, so no multipliers refute one.
+/// The one row that is kept has the coefficients 1 and 0.1 units and the right side 0.5: that is in reach, so 1 refutes nothing.
 #[test]
 fn offered_rows_are_not_justified(rt: HostRuntime) -> Result<(), Fail> {
     let plant = plant(0, HALF, ONE)?;
@@ -307,16 +307,15 @@ fn offered_rows_are_not_justified(rt: HostRuntime) -> Result<(), Fail> {
 fn kept_rows_refute_what_no_reading_misses(rt: HostRuntime) -> Result<(), Fail> {
     let plant = twin()?;
     let sample = pair(exactly(HALF), exactly(-HALF));
-    let mut sets = SetPair::begin(&plant);
-    let mut room = Room::new();
+    let mut est = Est::begin(&plant);
     assert!(rt; sample.u.is_empty() && plant.inputs() == 0);
     assert!(rt; sample.y.len() == 2 && plant.outputs() == 2);
-    let Outcome::Excluded(Cert::Rows(found)) = sets.judge(&plant, &sample, &mut room).outcome else {
+    let Outcome::Excluded(Cert::Rows(found)) = est.correct(&plant, &sample) else {
         return Err("not refuted".into());
     };
     assert!(rt; found.len() == 2);
     assert_eq!(rt; (found.at(0), found.at(1)), (1_000_000_000, -1_000_000_000));
-    assert_eq!(rt; sets.rows().count(), 2);
+    assert_eq!(rt; est.rows().count(), 2);
     Ok(())
 }
 
@@ -330,12 +329,11 @@ fn any_multipliers_that_pass_are_justified(rt: HostRuntime) -> Result<(), Fail> 
         (2_200_000_000, [1, -1], false),
     ] {
         let sample = pair(exactly(HALF), exactly(second));
-        let mut sets = SetPair::begin(&plant);
-        let mut room = Room::new();
+        let mut est = Est::begin(&plant);
         assert!(rt; sample.u.is_empty() && plant.inputs() == 0);
         assert!(rt; sample.y.len() == 2 && plant.outputs() == 2);
         let offer = Cert::Rows(Multipliers::of(&offered).ok_or("in range")?);
-        let judged = sets.judge_with(&plant, &sample, &mut room, Some(offer));
+        let judged = est.correct_with(&plant, &sample, Some(offer));
         assert_eq!(rt; judged.is_ok(), justified);
     }
     Ok(())

@@ -1,6 +1,7 @@
 mod checks;
 mod faults;
 pub mod inputs;
+mod kept_rows;
 mod one_model;
 mod refusals;
 pub mod several_models;

@@ -153,3 +153,35 @@ pub const WHEEL_ROWS: &str = "time,torque,speed,temp
 10,1,,20.0
 11,1,100.0,20.0
 ";
+
+/// Two sensors on the sum of two levels.
+pub const TWIN: &str = r#"version = 1
+outputs = ["y0", "y1"]
+
+[[model]]
+name = "twin"
+states = 2
+disturbances = 0
+A = [["0.5", 0], [0, "0.5"]]
+C = [[1, 1], [1, 1]]
+noise = ["0.1", "0.1"]
+centre = [0, 0]
+radius = [1, 1]
+state_max = [1000, 1000]
+"#;
+
+/// Three levels, with a sensor on each difference round the ring.
+pub const RING: &str = r#"version = 1
+outputs = ["y0", "y1", "y2"]
+
+[[model]]
+name = "ring"
+states = 3
+disturbances = 0
+A = [[1, 0, 0], [0, 1, 0], [0, 0, 1]]
+C = [[1, -1, 0], [0, 1, -1], [-1, 0, 1]]
+noise = ["0.1", "0.1", "0.1"]
+centre = [0, 0, 0]
+radius = [1, 1, 1]
+state_max = [1000, 1000, 1000]
+"#;
