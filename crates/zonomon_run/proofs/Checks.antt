@@ -16,6 +16,7 @@ use Rattle.report_rules.proofs.Hulls.{hulls-sound, exclusions-sound, estimate-so
 use Rattle.report_rules.proofs.Misses.{misses-told}
 use Rattle.report_rules.specs.Report.{IsReport, IsReportText}
 use Rattle.report_rules.specs.Replay.{Satisfies, SatisfiesBy}
+use Rattle.input_files.specs.Ended.{files_begun, without_last}
 use Rattle.input_files.specs.Files.{Files, bad_model, bad_header, monitored, files_of, model_refusal, telemetry_refusal}
 use Rattle.input_files.specs.Told.{OnBytes, OnFile}
 use Rattle.input_files.specs.Whole.{TakesAtMost, most_model, most_piece}
@@ -30,7 +31,6 @@ use Rattle.zonomon_run.specs.declared.ending.Ending.TheVariants.{ReadModel, Read
 use Rattle.zonomon_run.specs.Endings.{check_ending, unread_ending}
 use Rattle.zonomon_run.specs.Runs.{Outside, OnCheck, IsAccepted, PutsText, report_text}
 use Rattle.zonomon_run.specs.Checks.{Agrees, DepartsAtLine, Accepts, IsRefusedAt, IsCheckStatus, NoSlotRose, Unread, Checks, AreLinesWith, KeepsOwn, CheckedHulls, CheckedExclusions, CheckedMisses}
-use Rattle.monitor_run.specs.InTime.{lines_begun}
 use Rattle.monitor_run.specs.Reports.{report_of_rows, watch_of}
 use Rattle.zonomon_run.proofs.Runs.{refused-model, accepted-not-refused, not-refused, if-some, put-accepted}
 
@@ -232,7 +232,7 @@ module _ (model telemetry report : List ℕ) (before after : Outside) where
   module _ (fault : CheckFault) (says_model : OnFile before.shelf model (SaysOfModel (Err fault))) (says : OnReport before.shelf model telemetry report (SaysOfReport (Err fault)))
       (reads : HasReads fault) (asks : AsksInOrder model telemetry report (Err fault) after.shelf) (nothing : after.out.held ≡ before.out.held)
       (told : Tells (text_of (check_ending fault)) before.err after.err)
-      (in_time : OnReportLeft before.shelf after.shelf model telemetry report (λ m t left. RefusesInTime (lines_begun m t) left (Err fault)))
+      (in_time : OnReportLeft before.shelf after.shelf model telemetry report (λ m t bytes left. RefusesInTime (λ k. files_begun m (without_last k t)) bytes left (Err fault)))
       (taken : TakesAtMost (most_model + most_piece) (before.shelf.file model) (after.shelf.slot 0)) where
     abbrev all-say : (C : (m t b : List ℕ) → Type 0) → ((m t b : List ℕ) → SaysOfModel (Err fault) m → SaysOfReport (Err fault) (files_of m t) b → C m t b)
         → IfSome (before.shelf.file report) (λ b. OnBytes (before.shelf.file model) (before.shelf.file telemetry) (λ m t. C m t b))
@@ -262,7 +262,7 @@ module _ (model telemetry report : List ℕ) (before after : Outside) where
         each-say (before.shelf.file model) (before.shelf.file telemetry) (before.shelf.file report)
             (λ m t b. SaysOfReport (Err (check.Report x.0)) (files_of m t) b) (λ m t b. DepartsAtLine x.0 (files_of m t) b) (λ m t b h. departs-at-line x.0 (files_of m t) b h)
             (subst (λ g. OnReport before.shelf model telemetry report (SaysOfReport (Err g))) x.1 says),
-        subst (λ g. OnReportLeft before.shelf after.shelf model telemetry report (λ m t left. RefusesInTime (lines_begun m t) left (Err g))) x.1 in_time,
+        subst (λ g. OnReportLeft before.shelf after.shelf model telemetry report (λ m t bytes left. RefusesInTime (λ k. files_begun m (without_last k t)) bytes left (Err g))) x.1 in_time,
         subst (λ g. Tells (text_of (check_ending g)) before.err after.err) x.1 told,
       );
       report_refuses = all-say _ (report-refuses fault reads);

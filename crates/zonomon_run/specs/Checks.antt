@@ -1,5 +1,5 @@
 -- What a check does with files that the shelf tells.
-use Rattle.std.specs.Prelude.{◌≡◌, ◌≢◌, ◌⊎◌, ℕ, ◌+◌, ◌<◌, List, length, Some, None, IsSome}
+use Rattle.std.specs.Prelude.{◌≡◌, ◌≢◌, ◌⊎◌, ℕ, ◌+◌, List, Some, None, IsSome}
 use Rattle.outside_io.specs.Causes.{Rose}
 use Rattle.outside_io.specs.Shelf.{ShelfState}
 use Rattle.outside_io.specs.Sink.{Gains, GainsFront}
@@ -13,12 +13,12 @@ use Rattle.report_text.specs.Line.{Line, lines_text}
 use Rattle.report_rules.specs.Report.{IsReport}
 use Rattle.report_rules.specs.Replay.{Satisfies, DepartsAt}
 use Rattle.report_rules.specs.Claims.{HullsHold, ExclusionsHold, MissesTold, plant_at}
-use Rattle.monitor_run.specs.InTime.{lines_begun}
 use Rattle.monitor_run.specs.Reports.{watch_of}
+use Rattle.input_files.specs.Ended.{files_begun, without_last}
 use Rattle.input_files.specs.Files.{Files, bad_model, bad_header, monitored, model_refusal, telemetry_refusal}
 use Rattle.input_files.specs.Told.{OnFile, ReadFailed}
 use Rattle.input_files.specs.Whole.{IsAskedAtMost, TakesAtMost, most_model, most_piece}
-use Rattle.cert_replay.specs.Ahead.{OnReportLeft}
+use Rattle.cert_replay.specs.Ahead.{OnReportLeft, IsBehindBegun}
 use Rattle.cert_replay.specs.Outcome.{OnReport, AllRead}
 use Rattle.zonomon_run.specs.Ending.{Tells, text_of, accepted_text, telemetry_refusal_text, report_refusal_text}
 use Rattle.zonomon_run.specs.declared.ending.Ending.TheVariants.{ReadReport}
@@ -72,10 +72,10 @@ RefusesTelemetry model telemetry report before after =
     (fault : TelemFault) × OnReport before.shelf model telemetry report (IsRefusedAt fault)
     × Tells (telemetry_refusal_text fault) before.err after.err
 
--- where so many bytes of the telemetry are left, the line is behind all that are due without the last piece read and the byte
--- in front of it
-abbrev pub IsReadFor : ℕ → (model telemetry : List ℕ) → ℕ → Type 0
-IsReadFor line m t left = length (lines_begun m t (left + most_piece + 1)) < line
+-- where so many bytes of the telemetry are left, the line is behind all lines that the report has for the header and the rows that
+-- ended before the last piece read and the byte in front of it
+abbrev pub IsReadFor : ℕ → (model telemetry report : List ℕ) → ℕ → Type 0
+IsReadFor line m t bytes left = IsBehindBegun line bytes (files_begun m (without_last (left + most_piece + 1) t))
 
 -- the report departs first at a line, that was told, and the telemetry was read one piece at most past what the line needs
 abbrev pub RefusesReport : (model telemetry report : List ℕ) → Outside → Outside → Type 0
