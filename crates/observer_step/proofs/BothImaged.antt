@@ -48,13 +48,13 @@ module _ (p : Plant) (u : List ℤ) (e e' : Sets) where
   unfolding predict_sets
   both-moved stays is =
       is ∙ sym (ap (λ b. if b then state_boxes p
-          else record { plain = image_of p u (trim p.states e.plain); constrained = settle p.states (constrained_image p u e.constrained) }) stays)
+      else record { plain = image_of p u (trim p.states e.plain); constrained = settle p.states (constrained_image p u e.constrained) }) stays)
 
   pub both-boxed : either_leaves p u e ≡ true → e' ≡ state_boxes p → e' ≡ predict_sets p u e
   unfolding predict_sets
   both-boxed leaves is =
       is ∙ sym (ap (λ b. if b then state_boxes p
-          else record { plain = image_of p u (trim p.states e.plain); constrained = settle p.states (constrained_image p u e.constrained) }) leaves)
+      else record { plain = image_of p u (trim p.states e.plain); constrained = settle p.states (constrained_image p u e.constrained) }) leaves)
 
 -- what is predicted of corrected sets are the sets predicted at the next sample
 pub leads-on : (p : Plant) (u : List ℤ) (e e' : Sets) (test : Bool) → e' ≡ predict_sets p u e → test ≡ either_leaves p u e → LeadsOn p u e e' test

@@ -139,13 +139,7 @@ impl<const N: usize> Est<N> {
     }
 
     /// Compares a sample with what the plain set predicts. Where no output is due, both sets take the readings if they are wanted.
-    fn pass(
-        &mut self,
-        plant: &Plant<N>,
-        sample: &Sample,
-        room: &mut Room,
-        wanted: bool,
-    ) -> Passed
+    fn pass(&mut self, plant: &Plant<N>, sample: &Sample, room: &mut Room, wanted: bool) -> Passed
         requires inputs { length sample.now.u.items ≡ plant.now.inputs }
         requires outputs { length sample.now.y.items ≡ plant.now.outputs }
         ensures outs { result.outs.items ≡ predicted_outs plant.now sample.now.u.items self.old.plain }
