@@ -1,0 +1,64 @@
+//! A number for each row.
+
+use crate::fixed::Fixed;
+
+/// A number for each of six rows; 0 at those that there are not.
+#[derive(Clone, Copy, Debug)]
+pub(crate) struct Vector {
+    pub(crate) entries: [Fixed; 6],
+}
+
+impl Vector {
+    pub(crate) fn zero() -> Vector {
+        Vector {
+            entries: [Fixed::zero(); 6],
+        }
+    }
+
+    pub(crate) fn negated(&self) -> Vector {
+        let mut entries = self.entries;
+        for entry in entries.iter_mut() {
+            *entry = entry.negated();
+        }
+        Vector { entries }
+    }
+
+    pub(crate) fn plus(&self, other: &Vector) -> Vector {
+        let mut entries = self.entries;
+        for r in 0..6 {
+            entries[r] = entries[r].plus(other.entries[r]);
+        }
+        Vector { entries }
+    }
+
+    /// The sum of the products of the entries.
+    pub(crate) fn times(&self, other: &Vector) -> Fixed {
+        let mut sum: i128 = 0;
+        for r in 0..6 {
+            sum += self.entries[r].product(other.entries[r]);
+        }
+        Fixed::of_product(sum)
+    }
+
+    pub(crate) fn over(&self, divisor: Fixed) -> Vector {
+        let mut entries = self.entries;
+        for entry in entries.iter_mut() {
+            *entry = entry.over(divisor);
+        }
+        Vector { entries }
+    }
+
+    /// What is left once so many times `other` is taken away.
+    pub(crate) fn less(&self, times: Fixed, other: &Vector) -> Vector {
+        let mut entries = self.entries;
+        for r in 0..6 {
+            entries[r] = entries[r].minus(times.times(other.entries[r]));
+        }
+        Vector { entries }
+    }
+
+    /// The greatest number of units that an entry is from 0.
+    pub(crate) fn most(&self) -> u64 {
+        self.entries.iter().fold(0, |most, entry| most.max(entry.size()))
+    }
+}
