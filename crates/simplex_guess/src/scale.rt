@@ -51,9 +51,11 @@ impl Scales {
     pub(crate) fn of(rows: &Rows) -> Scales {
         let mut scales = [Scale { halvings: 0 }; 6];
         let mut least = 128;
-        for r in 0..rows.count() {
-            scales[r] = Scale::of(rows, r);
-            least = scales[r].halvings.min(least);
+        for (r, scale) in scales.iter_mut().enumerate() {
+            if r < rows.count() {
+                *scale = Scale::of(rows, r);
+                least = scale.halvings.min(least);
+            }
         }
         Scales {
             rows: scales,
@@ -66,8 +68,10 @@ impl Scales {
         requires { t < rows.now.width }
     {
         let mut column = Vector::zero();
-        for r in 0..rows.count() {
-            column.entries[r] = self.rows[r].scaled(rows.coef(r, t));
+        for (r, entry) in column.entries.iter_mut().enumerate() {
+            if r < rows.count() {
+                *entry = self.rows[r].scaled(rows.coef(r, t));
+            }
         }
         column
     }
@@ -75,8 +79,10 @@ impl Scales {
     /// The right sides, all enlarged alike, so that the greatest magnitude is 1; all 0 where none shows.
     pub(crate) fn right_sides(&self, rows: &Rows) -> Vector {
         let mut right = Vector::zero();
-        for r in 0..rows.count() {
-            right.entries[r] = self.rows[r].finely_scaled(rows.rhs(r));
+        for (r, entry) in right.entries.iter_mut().enumerate() {
+            if r < rows.count() {
+                *entry = self.rows[r].finely_scaled(rows.rhs(r));
+            }
         }
         right.over(Fixed::of(i128::from(right.most())))
     }
@@ -92,8 +98,8 @@ impl Scales {
         }
         let halvings = (128 - most.leading_zeros()).saturating_sub(62);
         let mut unscaled = Vector::zero();
-        for r in 0..6 {
-            unscaled.entries[r] = Fixed::of(wide[r] >> halvings);
+        for (entry, units) in unscaled.entries.iter_mut().zip(wide.iter()) {
+            *entry = Fixed::of(*units >> halvings);
         }
         unscaled
     }

@@ -45,8 +45,7 @@ impl Search {
     pub(crate) fn new(rows: &Rows, scales: &Scales) -> Search {
         let right = scales.right_sides(rows);
         let first = greatest_at(&right);
-        let mut ray = Vector::zero();
-        ray.entries[first] = Fixed::one().over(right.entries[first]);
+        let ray = Vector::unit(first, Fixed::one().over(right.entries[first]));
         let mut columns = ArrayVec::new();
         for t in 0..rows.width() {
             columns.push(Column::new(scales.column(rows, t), &ray));
@@ -189,19 +188,15 @@ fn greatest_at(right: &Vector) -> usize
 }
 
 /// At each other row a direction that takes it in, and at the first as much less as keeps the right side.
-fn first_directions(right: &Vector, ray: &Vector, first: usize) -> [Direction; 6]
-    requires { first < 6 }
-{
+fn first_directions(right: &Vector, ray: &Vector, first: usize) -> [Direction; 6] {
     let nowhere = Direction {
         vector: Vector::zero(),
         symbol: None,
     };
     let mut directions = [nowhere; 6];
-    for r in 0..6 {
+    for (r, direction) in directions.iter_mut().enumerate() {
         if r != first {
-            let mut vector = Vector::zero();
-            vector.entries[r] = Fixed::one();
-            directions[r].vector = vector.less(right.entries[r], ray);
+            direction.vector = Vector::unit(r, Fixed::one()).less(right.entries[r], ray);
         }
     }
     directions

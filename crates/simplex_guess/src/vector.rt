@@ -15,6 +15,17 @@ impl Vector {
         }
     }
 
+    /// This number at row `r` alone.
+    pub(crate) fn unit(r: usize, number: Fixed) -> Vector {
+        let mut entries = [Fixed::zero(); 6];
+        for (index, entry) in entries.iter_mut().enumerate() {
+            if index == r {
+                *entry = number;
+            }
+        }
+        Vector { entries }
+    }
+
     pub(crate) fn negated(&self) -> Vector {
         let mut entries = self.entries;
         for entry in entries.iter_mut() {
@@ -25,8 +36,8 @@ impl Vector {
 
     pub(crate) fn plus(&self, other: &Vector) -> Vector {
         let mut entries = self.entries;
-        for r in 0..6 {
-            entries[r] = entries[r].plus(other.entries[r]);
+        for (entry, more) in entries.iter_mut().zip(other.entries.iter()) {
+            *entry = entry.plus(*more);
         }
         Vector { entries }
     }
@@ -51,14 +62,16 @@ impl Vector {
     /// What is left once so many times `other` is taken away.
     pub(crate) fn less(&self, times: Fixed, other: &Vector) -> Vector {
         let mut entries = self.entries;
-        for r in 0..6 {
-            entries[r] = entries[r].minus(times.times(other.entries[r]));
+        for (entry, one) in entries.iter_mut().zip(other.entries.iter()) {
+            *entry = entry.minus(times.times(*one));
         }
         Vector { entries }
     }
 
     /// The greatest number of units that an entry is from 0.
     pub(crate) fn most(&self) -> u64 {
-        self.entries.iter().fold(0, |most, entry| most.max(entry.size()))
+        self.entries
+            .iter()
+            .fold(0, |most, entry| most.max(entry.size()))
     }
 }
