@@ -35,6 +35,8 @@ mod report_lines;
 #[cfg(test)]
 mod run;
 #[cfg(test)]
+mod search;
+#[cfg(test)]
 mod sets;
 #[cfg(test)]
 mod streaming;
