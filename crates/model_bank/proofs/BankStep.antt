@@ -6,13 +6,12 @@ use Rattle.std.proofs.lemmas.List.Elements.{All-nil, All-cons, All-head, All-tai
 use Rattle.farkas_check.specs.Certificate.{Certificate}
 use Rattle.plant_model.specs.Plant.{Plant, Sample, no_sample, sample_at}
 use Rattle.observer_step.specs.SetsAnswers.{sets_observer}
-use Rattle.observer_step.specs.Answers.{answer_with, certificate_at, any_justified, allows_at}
+use Rattle.observer_step.specs.Answers.{answer_with, Rule, allows_at}
 use Rattle.isolate_core.specs.Verdict.{verdict_of, possible_models}
-use Rattle.model_bank.specs.Answers.{ModelAnswer, SampleAnswer, answer_if, answers_from, live_after, certificates_at, all_allowed, sample_answer}
+use Rattle.model_bank.specs.Answers.{ModelAnswer, SampleAnswer, answer_if, answers_from, live_after, all_allowed, sample_answer}
 use Rattle.model_bank.specs.Bank.{Member, Bank, MemberStands, BankStands}
-use Rattle.model_bank.specs.Stepping.{dues}
-use Rattle.model_bank.specs.Steps.{due_of, answer_of, justified_of, ahead_of, judged_on, member_after, members_after, answers_of, all_justified, bank_answer, bank_after}
-use Rattle.model_bank.proofs.MemberStep.{Knows, answer-here, certificate-here, justified-here, member-stands}
+use Rattle.model_bank.specs.Steps.{answer_of, allowed_of, ahead_of, judged_on, member_after, members_after, answers_of, all_allowed_of, bank_answer, bank_after}
+use Rattle.model_bank.proofs.MemberStep.{Knows, answer-here, allowed-here, member-stands}
 
 module _ (is_first : Bool) (u : List ℤ) (s : Sample) where
   -- the plants stay
@@ -71,43 +70,18 @@ module _ (samples : List Sample) (s : Sample) (is_first : Bool) (u : List ℤ) (
       by rest true l = ap (λ a. answer_if true i a rest) (answer-here samples s is_first u knows m (All-head (MemberStands samples) m ms stand) l c)
       by rest false l = refl
 
-  -- and what is justified
-  pub allowed-are : (ms : List Member) (cs : List (Option Certificate)) → All (MemberStands samples) ms
-      → all_justified is_first u s ms cs ≡ all_allowed any_justified sets_observer (map (λ (m : Member). m.plant) ms) (map (λ (m : Member). m.live) ms) cs whole n
-  allowed-are [] [] stand = refl
-  allowed-are [] (c ∷ cs) stand = refl
-  allowed-are (m ∷ ms) [] stand = refl
-  allowed-are (m ∷ ms) (c ∷ cs) stand =
-      ap (λ b. (not m.live || justified_of is_first u s m c) && b) (allowed-are ms cs (All-tail (MemberStands samples) m ms stand))
-      ∙ ap (λ b. b && all_allowed any_justified sets_observer (map (λ (m : Member). m.plant) ms) (map (λ (m : Member). m.live) ms) cs whole n) (by m.live refl)
+  -- and what a rule allows
+  pub allowed-are : (rule : Rule) (ms : List Member) (cs : List (Option Certificate)) → All (MemberStands samples) ms
+      → all_allowed_of rule is_first u s ms cs ≡ all_allowed rule sets_observer (map (λ (m : Member). m.plant) ms) (map (λ (m : Member). m.live) ms) cs whole n
+  allowed-are rule [] [] stand = refl
+  allowed-are rule [] (c ∷ cs) stand = refl
+  allowed-are rule (m ∷ ms) [] stand = refl
+  allowed-are rule (m ∷ ms) (c ∷ cs) stand =
+      ap (λ b. (not m.live || allowed_of rule is_first u s m c) && b) (allowed-are rule ms cs (All-tail (MemberStands samples) m ms stand))
+      ∙ ap (λ b. b && all_allowed rule sets_observer (map (λ (m : Member). m.plant) ms) (map (λ (m : Member). m.live) ms) cs whole n) (by m.live refl)
     where
-      by : (b : Bool) → m.live ≡ b → (not b || justified_of is_first u s m c) ≡ (not b || allows_at any_justified sets_observer m.plant whole n c)
-      by true l = justified-here samples s is_first u knows m (All-head (MemberStands samples) m ms stand) l c
-      by false l = refl
-
-  -- what is due for the members is due for the plants, where that is asked
-  dues-answered : (i : ℕ) (ms : List Member) → All (MemberStands samples) ms
-      → answers_from sets_observer i (map (λ (m : Member). m.plant) ms) (map (λ (m : Member). m.live) ms) (map (due_of is_first u s) ms) whole n
-      ≡ answers_from sets_observer i (map (λ (m : Member). m.plant) ms) (map (λ (m : Member). m.live) ms) (certificates_at sets_observer (map (λ (m : Member). m.plant) ms) whole n) whole n
-  dues-answered i [] stand = refl
-  dues-answered i (m ∷ ms) stand =
-      ap (answer_if m.live i (answer_with sets_observer m.plant whole n (due_of is_first u s m))) (dues-answered (i + 1) ms (All-tail (MemberStands samples) m ms stand))
-      ∙ by (answers_from sets_observer (i + 1) (map (λ (m : Member). m.plant) ms) (map (λ (m : Member). m.live) ms) (certificates_at sets_observer (map (λ (m : Member). m.plant) ms) whole n) whole n) m.live refl
-    where
-      by : (rest : List ModelAnswer) (b : Bool) → m.live ≡ b
-          → answer_if b i (answer_with sets_observer m.plant whole n (due_of is_first u s m)) rest ≡ answer_if b i (answer_with sets_observer m.plant whole n (certificate_at sets_observer m.plant whole n)) rest
-      by rest true l = ap (λ c. answer_if true i (answer_with sets_observer m.plant whole n c) rest) (certificate-here samples s is_first u knows m (All-head (MemberStands samples) m ms stand) l)
-      by rest false l = refl
-
-  dues-left : (ms : List Member) → All (MemberStands samples) ms
-      → live_after (map (λ (m : Member). m.live) ms) (map (due_of is_first u s) ms) ≡ live_after (map (λ (m : Member). m.live) ms) (certificates_at sets_observer (map (λ (m : Member). m.plant) ms) whole n)
-  dues-left [] stand = refl
-  dues-left (m ∷ ms) stand =
-      ap (λ bs. (m.live && is_none (due_of is_first u s m)) ∷ bs) (dues-left ms (All-tail (MemberStands samples) m ms stand))
-      ∙ ap (λ b. b ∷ live_after (map (λ (m : Member). m.live) ms) (certificates_at sets_observer (map (λ (m : Member). m.plant) ms) whole n)) (by m.live refl)
-    where
-      by : (b : Bool) → m.live ≡ b → (b && is_none (due_of is_first u s m)) ≡ (b && is_none (certificate_at sets_observer m.plant whole n))
-      by true l = ap is_none (certificate-here samples s is_first u knows m (All-head (MemberStands samples) m ms stand) l)
+      by : (b : Bool) → m.live ≡ b → (not b || allowed_of rule is_first u s m c) ≡ (not b || allows_at rule sets_observer m.plant whole n c)
+      by true l = allowed-here samples s is_first u knows m (All-head (MemberStands samples) m ms stand) l rule c
       by false l = refl
 
 -- the answer of these parts
@@ -130,11 +104,11 @@ module _ (plants : List Plant) (samples : List Sample) (lives : List Bool) (s : 
         let possible = lives-then (eqb b.count 0) b.last_inputs s b.members cs ∙ ap (λ bs. live_after bs cs) stands.lives_are in
         λ i. answer_by (stands.count_is i) (answers i) (possible i)
 
-    -- and so is what is justified
-    pub bank-justifies : all_justified (eqb b.count 0) b.last_inputs s b.members cs ≡ all_allowed any_justified sets_observer plants lives cs there (length samples)
-    bank-justifies =
-        allowed-are samples s (eqb b.count 0) b.last_inputs knows b.members cs stands.members_stand
-        ∙ (λ i. all_allowed any_justified sets_observer (stands.plants_are i) (stands.lives_are i) cs there (length samples))
+    -- and so is what a rule allows
+    pub bank-allows : (rule : Rule) → all_allowed_of rule (eqb b.count 0) b.last_inputs s b.members cs ≡ all_allowed rule sets_observer plants lives cs there (length samples)
+    bank-allows rule =
+        allowed-are samples s (eqb b.count 0) b.last_inputs knows rule b.members cs stands.members_stand
+        ∙ (λ i. all_allowed rule sets_observer (stands.plants_are i) (stands.lives_are i) cs there (length samples))
 
     -- after the sample the bank stands for that too
     pub bank-stands : length cs ≡ length b.members → BankStands plants there (live_after lives cs) (bank_after s b cs)
@@ -149,26 +123,20 @@ module _ (plants : List Plant) (samples : List Sample) (lives : List Bool) (s : 
           members_stand = members-stand samples s (eqb b.count 0) b.last_inputs knows b.members cs stands.members_stand;
         }
 
-  -- with what is due for the members the answer is that with what is due for the plants
-  pub dues-answer : sample_answer sets_observer plants lives (map (due_of (eqb b.count 0) b.last_inputs s) b.members) there (length samples)
-      ≡ sample_answer sets_observer plants lives (dues plants samples s) there (length samples)
-  dues-answer =
-      let cs = map (due_of (eqb b.count 0) b.last_inputs s) b.members in
-      let given : sample_answer sets_observer plants lives cs there (length samples) ≡ answer_by (length samples) (answers_from sets_observer 0 (map (λ (m : Member). m.plant) b.members) (map (λ (m : Member). m.live) b.members) cs there (length samples)) (live_after (map (λ (m : Member). m.live) b.members) cs) =
-      λ i. sample_answer sets_observer (sym stands.plants_are i) (sym stands.lives_are i) cs there (length samples) in
-      let answers = dues-answered samples s (eqb b.count 0) b.last_inputs knows 0 b.members stands.members_stand in
-      let left = dues-left samples s (eqb b.count 0) b.last_inputs knows b.members stands.members_stand in
-      given ∙ (λ i. answer_by (length samples) (answers i) (left i))
-      ∙ (λ i. sample_answer sets_observer (stands.plants_are i) (stands.lives_are i) (dues (stands.plants_are i) samples s) there (length samples))
-
-  pub dues-live : live_after lives (map (due_of (eqb b.count 0) b.last_inputs s) b.members) ≡ live_after lives (dues plants samples s)
-  dues-live =
-      let left = dues-left samples s (eqb b.count 0) b.last_inputs knows b.members stands.members_stand in
-      ap (λ bs. live_after bs (map (due_of (eqb b.count 0) b.last_inputs s) b.members)) (sym stands.lives_are) ∙ left
-      ∙ (λ i. live_after (stands.lives_are i) (dues (stands.plants_are i) samples s))
-
 -- as many members stay
 pub members-many : (is_first : Bool) (u : List ℤ) (s : Sample) (ms : List Member) (cs : List (Option Certificate)) → length cs ≡ length ms → length (members_after is_first u s ms cs) ≡ length ms
 members-many is_first u s [] cs e = refl
 members-many is_first u s (m ∷ ms) [] e = absurd cc
 members-many is_first u s (m ∷ ms) (c ∷ cs) e = let others = members-many is_first u s ms cs (omega arith) in omega arith
+
+-- what is allowed says something of each member
+pub allowed-long : (rule : Rule) (is_first : Bool) (u : List ℤ) (s : Sample) (ms : List Member) (cs : List (Option Certificate)) → all_allowed_of rule is_first u s ms cs ≡ true → length cs ≡ length ms
+allowed-long rule is_first u s [] [] all = refl
+allowed-long rule is_first u s [] (c ∷ cs) all = absurd cc
+allowed-long rule is_first u s (m ∷ ms) [] all = absurd cc
+allowed-long rule is_first u s (m ∷ ms) (c ∷ cs) all =
+    let others = by (not m.live || allowed_of rule is_first u s m c) (allowed-long rule is_first u s ms cs) all in omega arith
+  where
+    by : (b : Bool) → (all_allowed_of rule is_first u s ms cs ≡ true → length cs ≡ length ms) → b && all_allowed_of rule is_first u s ms cs ≡ true → length cs ≡ length ms
+    by true more h = more h
+    by false more h = absurd cc

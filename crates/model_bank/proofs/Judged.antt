@@ -8,17 +8,19 @@ use Rattle.plant_model.specs.Plant.{Plant, Sample}
 use Rattle.observer_step.specs.Predicted.{predicted_outs, hulls, due}
 use Rattle.observer_step.specs.Offers.{offers_output, outs_in, answer_in}
 use Rattle.observer_step.specs.Sets.{Sets, correct_sets, correct_sets_if}
-use Rattle.observer_step.specs.SetsAnswers.{refutes_kept, candidate_of, certificate_of_sets, is_justified_of_sets, sets_offered, SetsAnswer}
+use Rattle.observer_step.specs.Answers.{as_run_chooses}
+use Rattle.observer_step.specs.SetsAnswers.{refutes_kept, candidate_of, is_allowed_of_sets, is_justified_of_sets, sets_offered, SetsAnswer}
 use Rattle.observer_step.specs.Seen.{is_printable_interval}
 use Rattle.observer_step.specs.declared.outcome.Judgement.{Judgement}
 use Rattle.observer_step.specs.declared.outcome.Unjustified.{Unjustified}
-use Rattle.observer_step.proofs.Offered.{taken-given, taken-justified}
+use Rattle.observer_step.proofs.Chosen.{taken-chosen}
+use Rattle.observer_step.proofs.Offered.{taken-justified}
 use Rattle.model_bank.specs.Answers.{ModelAnswer}
 use Rattle.model_bank.specs.Bank.{Member}
-use Rattle.model_bank.specs.Steps.{widens, answer_on, answer_of, sets_on, ahead_of, justified_of, told_of, judged_on, member_after}
-use Rattle.model_bank.specs.Claims.{claimed_on, claimed_of, SetsTake, SetsRefuse, MemberRefuses}
+use Rattle.model_bank.specs.Steps.{widens, answer_on, answer_of, sets_on, ahead_of, allowed_of, told_of, judged_on, member_after}
+use Rattle.model_bank.specs.Claims.{claimed, rule_of, SetsTake, SetsRefuse, MemberTakes, MemberRefuses}
 use Rattle.model_bank.specs.declared.claim.Claim.{Claim}
-use Rattle.model_bank.specs.declared.claim.Claim.TheVariants.{Offered}
+use Rattle.model_bank.specs.declared.claim.Claim.TheVariants.{Own, Offered}
 
 pub list_all-push : {A : Type 0} (test : A → Bool) (xs : List A) (x : A) → list_all test xs ≡ true → test x ≡ true → list_all test (xs ++ x ∷ []) ≡ true
 list_all-push test [] x h k = ap (λ b. b && true) k
@@ -39,11 +41,12 @@ printable-hull ends low high = ap (λ b. b && nat_le (unsigned_abs ends.1) (10 ^
 abbrev pub model_answer : ℕ → List (ℤ × ℤ) → Bool → Option Certificate → List (ℤ × ℤ) → ModelAnswer
 model_answer index outs is_widened certificate hs = record { index = index; answer = record { predicted = outs; is_widened = is_widened; certificate = certificate; hulls = hs } }
 
--- the sets after a sample that is judged by the certificate that it gives
-pub sets-given : (p : Plant) (s : Sample) (e after : Sets) (c : Option Certificate) → c ≡ certificate_of_sets p s e → after ≡ correct_sets_if (is_none (due p s e.plain)) p s e → after ≡ sets_on p s e c
+-- the sets after a sample that is judged by the model's own choice
+pub sets-chosen : (p : Plant) (s : Sample) (e after : Sets) (c : Option Certificate) → is_allowed_of_sets as_run_chooses p s e c ≡ true → after ≡ correct_sets_if (is_none (due p s e.plain)) p s e → after ≡ sets_on p s e c
 unfolding sets_on
-sets-given p s e after c given sets =
-    sets ∙ ap (λ b. correct_sets_if b p s e) (taken-given (due p s e.plain) (candidate_of (correct_sets p s e).constrained) ∙ ap (λ c. not (offers_output c)) (sym given))
+sets-chosen p s e after c chosen sets =
+    let z = (correct_sets p s e).constrained in
+    sets ∙ ap (λ b. correct_sets_if b p s e) (taken-chosen (refutes_kept z) (due p s e.plain) (candidate_of z) c chosen)
 
 -- the sets after a sample that is judged by an offer
 pub sets-justified : (p : Plant) (s : Sample) (e after : Sets) (c : Option Certificate) → is_justified_of_sets p s e c ≡ true → after ≡ sets_offered p s e c → after ≡ sets_on p s e c
@@ -56,9 +59,9 @@ pub offer-taken : (p : Plant) (s : Sample) (e after : Sets) (offered : Option Ce
     → after ≡ sets_offered p s e (option_map certificate_of offered) → IfOk r (SetsTake p s e after (Offered offered))
 offer-taken p s e after offered (Ok j) outs answer sets = record {
   outs_are = outs;
-  certificate_is = answer.is;
-  justified = answer.justified;
-  sets_are = sets-justified p s e after (option_map certificate_of offered) answer.justified sets;
+  is_claimed = answer.is;
+  allowed = ap (is_justified_of_sets p s e) answer.is ∙ answer.justified;
+  sets_are = sets-justified p s e after (option_map certificate_of offered) answer.justified sets ∙ ap (sets_on p s e) (sym answer.is);
 }
 offer-taken p s e after offered (Err why) outs answer sets = tt
 
@@ -101,25 +104,23 @@ member_with p e b = record { plant = p; estimate = e; live = b }
 
 -- a live member of which p is the plant and z the predicted sets
 module _ (is_first : Bool) (u : List ℤ) (s : Sample) (m : Member) (live : m.live ≡ true) (p : Plant) (same : p ≡ m.plant) (z : Sets) (ahead : z ≡ ahead_of is_first u m) (claim : Claim) where
-  pub claimed-same : claimed_on p s z claim ≡ claimed_of is_first u s m claim
-  claimed-same = λ i. claimed_on (same i) s (ahead i) claim
+  module _ (c : Option Certificate) where
+    pub allowed-taken : is_allowed_of_sets (rule_of claim) p s z c ≡ true → (not m.live || allowed_of (rule_of claim) is_first u s m c) ≡ true
+    allowed-taken is =
+        ap (λ b. not b || allowed_of (rule_of claim) is_first u s m c) live
+        ∙ sym (λ i. is_allowed_of_sets (rule_of claim) (same i) s (ahead i) c) ∙ is
 
-  pub justified-taken : is_justified_of_sets p s z (claimed_on p s z claim) ≡ true → (not m.live || justified_of is_first u s m (claimed_of is_first u s m claim)) ≡ true
-  justified-taken is =
-      ap (λ b. not b || justified_of is_first u s m (claimed_of is_first u s m claim)) live
-      ∙ sym (λ i. is_justified_of_sets (same i) s (ahead i) (claimed-same i)) ∙ is
+    pub answer-taken : (index : ℕ) (w : Bool) (model : ModelAnswer) → w ≡ widens is_first u m.plant m.estimate → model ≡ record { index = index; answer = answer_on p s z w c }
+        → Some model ≡ told_of is_first u s index m c
+    answer-taken index w model e is =
+        ap Some (is ∙ (λ i. record { index = index; answer = answer_on (same i) s (ahead i) (e i) c }))
+        ∙ sym (ap (λ b. if b then Some (record { index = index; answer = answer_of is_first u s m c }) else None) live)
 
-  pub answer-taken : (index : ℕ) (w : Bool) (model : ModelAnswer) → w ≡ widens is_first u m.plant m.estimate → model ≡ record { index = index; answer = answer_on p s z w (claimed_on p s z claim) }
-      → Some model ≡ told_of is_first u s index m (claimed_of is_first u s m claim)
-  answer-taken index w model e is =
-      ap Some (is ∙ (λ i. record { index = index; answer = answer_on (same i) s (ahead i) (e i) (claimed-same i) }))
-      ∙ sym (ap (λ b. if b then Some (record { index = index; answer = answer_of is_first u s m (claimed_of is_first u s m claim) }) else None) live)
-
-  pub member-taken : (after : Sets) (b : Bool) → after ≡ sets_on p s z (claimed_on p s z claim) → b ≡ is_none (claimed_on p s z claim) → member_with p after b ≡ member_after is_first u s m (claimed_of is_first u s m claim)
-  member-taken after b e f =
-      (λ i. member_with p (e i) (f i))
-      ∙ (λ i. judged_on (same i) s (ahead i) (claimed-same i))
-      ∙ sym (ap (λ b. if b then judged_on m.plant s (ahead_of is_first u m) (claimed_of is_first u s m claim) else m) live)
+    pub member-taken : (after : Sets) (b : Bool) → after ≡ sets_on p s z c → b ≡ is_none c → member_with p after b ≡ member_after is_first u s m c
+    member-taken after b e f =
+        (λ i. member_with p (e i) (f i))
+        ∙ (λ i. judged_on (same i) s (ahead i) c)
+        ∙ sym (ap (λ b. if b then judged_on m.plant s (ahead_of is_first u m) c else m) live)
 
   pub member-refuses : (e : Unjustified) → SetsRefuse p s z claim e → MemberRefuses is_first u s m claim e
   member-refuses e refuses = record { live = live; refuses = subst (λ (a : Plant × Sets). SetsRefuse a.0 s a.1 claim e) (λ i. (same i, ahead i)) refuses }
@@ -130,12 +131,18 @@ unfolding answer_on
 certificate-in p s z index w c model is = ap (λ (a : ModelAnswer). is_none a.answer.certificate) is
 
 -- a model that is not live
-module _ (is_first : Bool) (u : List ℤ) (s : Sample) (m : Member) (dead : m.live ≡ false) (c : Option Certificate) where
-  pub dead-justified : (not m.live || justified_of is_first u s m c) ≡ true
-  dead-justified = ap (λ b. not b || justified_of is_first u s m c) dead
+module _ (is_first : Bool) (u : List ℤ) (s : Sample) (m : Member) (dead : m.live ≡ false) where
+  claimed-twice : (claim : Claim) → claimed claim None ≡ claimed claim (claimed claim None)
+  claimed-twice Own = refl
+  claimed-twice (Offered offered) = refl
 
-  pub dead-told : (index : ℕ) → None ≡ told_of is_first u s index m c
-  dead-told index = sym (ap (λ b. if b then Some (record { index = index; answer = answer_of is_first u s m c }) else None) dead)
-
-  pub dead-stays : m ≡ member_after is_first u s m c
-  dead-stays = sym (ap (λ b. if b then judged_on m.plant s (ahead_of is_first u m) c else m) dead)
+  pub dead-takes : (index : ℕ) (claim : Claim) (after : Member) → after ≡ m → MemberTakes is_first u s index m after claim None
+  dead-takes index claim after stays =
+      let c = claimed claim None in
+      record {
+        certificate = c;
+        is_claimed = claimed-twice claim;
+        allowed = ap (λ b. not b || allowed_of (rule_of claim) is_first u s m c) dead;
+        told_is = sym (ap (λ b. if b then Some (record { index = index; answer = answer_of is_first u s m c }) else None) dead);
+        new_is = stays ∙ sym (ap (λ b. if b then judged_on m.plant s (ahead_of is_first u m) c else m) dead);
+      }

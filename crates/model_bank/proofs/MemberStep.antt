@@ -7,11 +7,11 @@ use Rattle.farkas_check.specs.Certificate.{Certificate}
 use Rattle.observer_step.specs.Predicted.{predicted_outs, due}
 use Rattle.observer_step.specs.Offers.{offers_output}
 use Rattle.observer_step.specs.Sets.{Sets, first_sets, predict_sets, correct_sets, correct_sets_if, predicted_sets, corrected_sets, sets_widened, either_leaves}
-use Rattle.observer_step.specs.Answers.{answer_with, certificate_at, due_at, any_justified, allows_at}
-use Rattle.observer_step.specs.SetsAnswers.{sets_observer, certificate_of_sets, is_justified_of_sets}
+use Rattle.observer_step.specs.Answers.{answer_with, due_at, Rule, allows_at}
+use Rattle.observer_step.specs.SetsAnswers.{sets_observer, is_allowed_of_sets}
 use Rattle.observer_step.proofs.SetsHold.{later-sets, sets-first}
 use Rattle.model_bank.specs.Bank.{Member, sets_after, MemberStands}
-use Rattle.model_bank.specs.Steps.{sets_ahead, widens, answer_on, answer_of, sets_on, ahead_of, due_of, justified_of, judged_on, member_after}
+use Rattle.model_bank.specs.Steps.{sets_ahead, widens, answer_on, answer_of, sets_on, ahead_of, allowed_of, judged_on, member_after}
 
 -- the sample after some samples, and those before
 sample-last : (samples : List Sample) (s : Sample) → sample_at (samples ++ s ∷ []) (length samples) ≡ s
@@ -84,15 +84,12 @@ module _ (samples : List Sample) (s : Sample) (is_first : Bool) (u : List ℤ) (
   pub predicted-here : m.live ≡ true → predicted_outs m.plant s.inputs (ahead_of is_first u m).plain ≡ predicted_outs m.plant (sample_at whole n).inputs (predicted_sets m.plant whole n).plain
   predicted-here l = λ i. predicted_outs m.plant ((sym (sample-last samples s)) i).inputs (sets-here l i).plain
 
-  -- so is the output that is due, the certificate that is given, and what is justified
+  -- so is the output that is due, and what a rule allows
   pub due-here : m.live ≡ true → due m.plant s (ahead_of is_first u m).plain ≡ due_at sets_observer m.plant whole n
   due-here l = λ i. due m.plant (sym (sample-last samples s) i) (sets-here l i).plain
 
-  pub certificate-here : m.live ≡ true → due_of is_first u s m ≡ certificate_at sets_observer m.plant whole n
-  certificate-here l = λ i. certificate_of_sets m.plant (sym (sample-last samples s) i) (sets-here l i)
-
-  pub justified-here : m.live ≡ true → (c : Option Certificate) → justified_of is_first u s m c ≡ allows_at any_justified sets_observer m.plant whole n c
-  justified-here l c = λ i. is_justified_of_sets m.plant (sym (sample-last samples s) i) (sets-here l i) c
+  pub allowed-here : m.live ≡ true → (rule : Rule) (c : Option Certificate) → allowed_of rule is_first u s m c ≡ allows_at rule sets_observer m.plant whole n c
+  allowed-here l rule c = λ i. is_allowed_of_sets rule m.plant (sym (sample-last samples s) i) (sets-here l i) c
 
   longer : length whole ≡ suc n
   longer = let e = length_push samples s in omega arith

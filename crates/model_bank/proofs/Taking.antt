@@ -1,20 +1,21 @@
 -- A loop over the members of a bank, one member on.
-use Rattle.std.proofs.Common.{Vec, ◌≡◌, ℕ, ◌+◌, ◌<◌, ◌≤◌, ℤ, List, [], ◌∷◌, ◌++◌, length, map, take, drop, get_or, set, Option, None, Some, IfSome, option_map, if◌then◌else◌, Bool, true, false, not, ◌&&◌, ◌||◌, refl, sym, ap, ◌∙◌, arith, append_assoc, add-zero}
+use Rattle.std.proofs.Common.{Vec, ◌≡◌, ℕ, ◌+◌, ◌<◌, ◌≤◌, ℤ, List, [], ◌∷◌, ◌++◌, length, map, take, drop, get_or, set, Option, None, Some, IfSome, option_map, if◌then◌else◌, Bool, true, false, not, ◌&&◌, ◌||◌, ◌×◌, refl, sym, ap, ◌∙◌, arith, append_assoc, add-zero}
 use Rattle.std.specs.Borrow.{Bor}
 use Rattle.std.specs.Option.{option_to_list}
 use Rattle.std.specs.Vec.{with_items}
-use Rattle.std.proofs.lemmas.List.{append-nil, map_push, length_push, drop_more, take_more, take-append-drop, get_or_at, set_at, get_or-map, length-map, with_items_is, length-take-le}
+use Rattle.std.proofs.lemmas.List.{append-nil, map_push, length_push, take_all, drop_all, drop_more, take_more, take-append-drop, get_or_at, set_at, get_or-map, length-map, with_items_is, length-take-le}
 use Rattle.farkas_check.specs.Certificate.{Certificate, certificate_of}
 use Rattle.farkas_check.specs.declared.certificate.Cert.{Cert}
 use Rattle.plant_model.specs.Plant.{Sample}
 use Rattle.model_bank.specs.Answers.{ModelAnswer, answer_if}
 use Rattle.model_bank.specs.Bank.{Member}
-use Rattle.observer_step.specs.Predicted.{predicted_outs, due}
 use Rattle.observer_step.specs.declared.outcome.Unjustified.{Unjustified}
-use Rattle.model_bank.specs.Steps.{ahead_of, due_of, answer_of, told_of, justified_of, answers_of, member_after, members_after, all_justified}
-use Rattle.model_bank.specs.Claims.{claimed_of, MemberTakes, MemberRefuses}
-use Rattle.model_bank.specs.Offers.{claim_at, claims_of, RefusesMember}
+use Rattle.observer_step.specs.Answers.{Rule, any_justified}
+use Rattle.model_bank.specs.Steps.{answer_of, told_of, allowed_of, answers_of, member_after, members_after, all_allowed_of}
+use Rattle.model_bank.specs.Claims.{claimed, rule_of, MemberTakes, MemberRefuses}
+use Rattle.model_bank.specs.Offers.{claim_at, rule_for, all_claimed, MembersTake, RefusesMember}
 use Rattle.model_bank.specs.declared.claim.Claim.{Claim}
+use Rattle.model_bank.specs.declared.claim.Claim.TheVariants.{Offered}
 use Rattle.model_bank.proofs.BankStep.{members-many}
 
 -- a list with these items in the place of its first
@@ -56,53 +57,17 @@ module _ (is_first : Bool) (u : List ℤ) (s : Sample) where
       by true xs ys = refl
       by false xs ys = refl
 
-  justified-push : (ms : List Member) (cs : List (Option Certificate)) (m : Member) (c : Option Certificate) → all_justified is_first u s ms cs ≡ true → (not m.live || justified_of is_first u s m c) ≡ true
-      → all_justified is_first u s (ms ++ m ∷ []) (cs ++ c ∷ []) ≡ true
-  justified-push [] [] m c all here = ap (λ b. b && true) here
-  justified-push [] (d ∷ cs) m c all here = absurd cc
-  justified-push (n ∷ ms) [] m c all here = absurd cc
-  justified-push (n ∷ ms) (d ∷ cs) m c all here = by (not n.live || justified_of is_first u s n d) (λ h. justified-push ms cs m c h here) all
+  allowed-push : (rule : Rule) (ms : List Member) (cs : List (Option Certificate)) (m : Member) (c : Option Certificate) → all_allowed_of rule is_first u s ms cs ≡ true → (not m.live || allowed_of rule is_first u s m c) ≡ true
+      → all_allowed_of rule is_first u s (ms ++ m ∷ []) (cs ++ c ∷ []) ≡ true
+  allowed-push rule [] [] m c all here = ap (λ b. b && true) here
+  allowed-push rule [] (d ∷ cs) m c all here = absurd cc
+  allowed-push rule (n ∷ ms) [] m c all here = absurd cc
+  allowed-push rule (n ∷ ms) (d ∷ cs) m c all here = by (not n.live || allowed_of rule is_first u s n d) (λ h. allowed-push rule ms cs m c h here) all
     where
-      by : (b : Bool) → (all_justified is_first u s ms cs ≡ true → all_justified is_first u s (ms ++ m ∷ []) (cs ++ c ∷ []) ≡ true) → b && all_justified is_first u s ms cs ≡ true
-          → b && all_justified is_first u s (ms ++ m ∷ []) (cs ++ c ∷ []) ≡ true
+      by : (b : Bool) → (all_allowed_of rule is_first u s ms cs ≡ true → all_allowed_of rule is_first u s (ms ++ m ∷ []) (cs ++ c ∷ []) ≡ true) → b && all_allowed_of rule is_first u s ms cs ≡ true
+          → b && all_allowed_of rule is_first u s (ms ++ m ∷ []) (cs ++ c ∷ []) ≡ true
       by true more h = more h
       by false more h = h
-
-  -- what was made of the first members, and of one more
-  module _ (old : List Member) (cs : List (Option Certificate)) (long : length cs ≡ length old) (i : ℕ) (below : i < length old) (d : Member) (e : Option Certificate) where
-    so_many : i ≤ length cs
-    so_many = omega arith
-
-    as_many : length (take i cs) ≡ length (take i old)
-    as_many = length-take-le i cs so_many ∙ sym (length-take-le i old (omega arith))
-
-    pub members-long : length (members_after is_first u s (take i old) (take i cs)) ≡ i
-    members-long = members-many is_first u s (take i old) (take i cs) as_many ∙ length-take-le i old (omega arith)
-
-    both : (A : Type 0) (f : List Member → List (Option Certificate) → A) → f (take (i + 1) old) (take (i + 1) cs) ≡ f (take i old ++ get_or old i d ∷ []) (take i cs ++ get_or cs i e ∷ [])
-    both A f = λ j. f (take_more old i d below j) (take_more cs i e (omega arith) j)
-
-    pub members-more : members_after is_first u s (take (i + 1) old) (take (i + 1) cs) ≡ members_after is_first u s (take i old) (take i cs) ++ member_after is_first u s (get_or old i d) (get_or cs i e) ∷ []
-    members-more = both (List Member) (members_after is_first u s) ∙ members-push (take i old) (take i cs) (get_or old i d) (get_or cs i e) as_many
-
-    pub answers-more : answers_of is_first u s 0 (take (i + 1) old) (take (i + 1) cs) ≡ answers_of is_first u s 0 (take i old) (take i cs) ++ option_to_list (told_of is_first u s i (get_or old i d) (get_or cs i e))
-    answers-more =
-        let at : i ≡ 0 + length (take i old) = omega (arith, length-take-le i old (omega arith)) in
-        both (List ModelAnswer) (answers_of is_first u s 0) ∙ answers-push 0 (take i old) (take i cs) (get_or old i d) (get_or cs i e) i as_many at
-
-    pub justified-more : all_justified is_first u s (take i old) (take i cs) ≡ true → (not (get_or old i d).live || justified_of is_first u s (get_or old i d) (get_or cs i e)) ≡ true
-        → all_justified is_first u s (take (i + 1) old) (take (i + 1) cs) ≡ true
-    justified-more all here = both Bool (all_justified is_first u s) ∙ justified-push (take i old) (take i cs) (get_or old i d) (get_or cs i e) all here
-
-  -- what is claimed of each member
-  pub claims-long : (ms : List Member) (offered : Option (Bor (List (Option Cert)))) → IfSome offered (λ offers. length offers.now ≡ length ms) → length (claims_of is_first u s ms offered) ≡ length ms
-  claims-long ms None many = length-map ms (due_of is_first u s)
-  claims-long ms (Some offers) many = length-map offers.now (option_map certificate_of) ∙ many
-
-  pub claim-here : (ms : List Member) (offered : Option (Bor (List (Option Cert)))) → IfSome offered (λ offers. length offers.now ≡ length ms) → (i : ℕ) (d : Member) → i < length ms
-      → get_or (claims_of is_first u s ms offered) i None ≡ claimed_of is_first u s (get_or ms i d) (claim_at offered i)
-  claim-here ms None many i d below = get_or-map (due_of is_first u s) ms i d None below
-  claim-here ms (Some offers) many i d below = get_or-map (option_map certificate_of) offers.now i None None (omega arith)
 
 -- what was told of one more
 pub told-more : {A B : Type 0} (f : A → B) (xs : List A) (o : Option A) → map f (xs ++ option_to_list o) ≡ map f xs ++ option_to_list (option_map f o)
@@ -113,54 +78,130 @@ pub told-few : {A : Type 0} (xs : List A) (o : Option A) → length (xs ++ optio
 told-few xs None = omega (arith, ap length (append-nil xs))
 told-few xs (Some x) = omega (arith, length_push xs x)
 
--- member i of a bank, of which the members before were taken
-module _ (is_first : Bool) (u : List ℤ) (s : Sample) (old : List Member) (offered : Option (Bor (List (Option Cert)))) (many : IfSome offered (λ offers. length offers.now ≡ length old))
-    (i : ℕ) (below : i < length old) (d m : Member) (here : m ≡ get_or old i d) (claim : Claim) (claim_is : claim ≡ claim_at offered i) where
-  abbrev pub cs : List (Option Certificate)
-  cs = claims_of is_first u s old offered
+-- there is an offer for each member
+pub offers-room : (offered : Option (Bor (List (Option Cert)))) (n i : ℕ) → IfSome offered (λ offers. length offers.now ≡ n) → i < n → IfSome offered (λ offers. i < length offers.now)
+offers-room None n i many below = tt
+offers-room (Some offers) n i many below = omega arith
 
-  long : length cs ≡ length old
-  long = claims-long is_first u s old offered many
+-- the rule of a claim is that of all
+rule-here : (offered : Option (Bor (List (Option Cert)))) (i : ℕ) (claim : Claim) → claim ≡ claim_at offered i → rule_of claim ≡ rule_for offered
+rule-here None i claim is = ap rule_of is
+rule-here (Some offers) i claim is = ap rule_of is
 
-  claimed-here : claimed_of is_first u s m claim ≡ get_or cs i None
-  claimed-here = (λ j. claimed_of is_first u s (here j) (claim_is j)) ∙ sym (claim-here is_first u s old offered many i d below)
+-- what is claimed of the first members, and of one more
+claimed-more : (offered : Option (Bor (List (Option Cert)))) (i : ℕ) (claim : Claim) → claim ≡ claim_at offered i → (cs : List (Option Certificate)) (c : Option Certificate) → length cs ≡ i
+    → IfSome offered (λ offers. i < length offers.now) → cs ≡ take i (all_claimed offered cs) → c ≡ claimed claim c → cs ++ c ∷ [] ≡ take (i + 1) (all_claimed offered (cs ++ c ∷ []))
+claimed-more None i claim is cs c long below are here =
+    let whole : length (cs ++ c ∷ []) ≡ i + 1 = length_push cs c ∙ ap (λ n. n + 1) long in
+    sym (take_all (i + 1) (cs ++ c ∷ []) (omega arith))
+claimed-more (Some offers) i claim is cs c long below are here =
+    let all = map (option_map certificate_of) offers.now in
+    let many : length all ≡ length offers.now = length-map offers.now (option_map certificate_of) in
+    let one : c ≡ get_or all i None = here ∙ ap (λ k. claimed k c) is ∙ sym (get_or-map (option_map certificate_of) offers.now i None None below) in
+    (λ j. are j ++ one j ∷ []) ∙ sym (take_more all i None (omega arith))
 
-  module _ (new : Member) (told : Option ModelAnswer) (takes : MemberTakes is_first u s i m new claim told) where
-    pub taken-justified : all_justified is_first u s (take i old) (take i cs) ≡ true → all_justified is_first u s (take (i + 1) old) (take (i + 1) cs) ≡ true
-    taken-justified all =
-        justified-more is_first u s old cs long i below d None all (sym (λ j. not (here j).live || justified_of is_first u s (here j) (claimed-here j)) ∙ takes.justified)
+-- what was made of the first i members of a bank
+pub record Took (is_first : Bool) (u : List ℤ) (s : Sample) (offered : Option (Bor (List (Option Cert)))) (old : List Member) (i : ℕ)
+    (cs : List (Option Certificate)) (seen : List ModelAnswer) (now : List Member) : Type 0 where
+  pub long : length cs ≡ i
+  pub are_claimed : cs ≡ take i (all_claimed offered cs)
+  pub allowed : all_allowed_of (rule_for offered) is_first u s (take i old) cs ≡ true
+  pub so_far : seen ≡ answers_of is_first u s 0 (take i old) cs
+  pub taken : now ≡ members_after is_first u s (take i old) cs ++ drop i old
 
-    pub taken-told : (xs : List ModelAnswer) → xs ≡ answers_of is_first u s 0 (take i old) (take i cs) → xs ++ option_to_list told ≡ answers_of is_first u s 0 (take (i + 1) old) (take (i + 1) cs)
-    taken-told xs so_far =
-        (λ j. so_far j ++ option_to_list ((takes.told_is ∙ (λ k. told_of is_first u s i (here k) (claimed-here k))) j)) ∙ sym (answers-more is_first u s old cs long i below d None)
+module _ (is_first : Bool) (u : List ℤ) (s : Sample) (offered : Option (Bor (List (Option Cert)))) (old : List Member) where
+  pub took-none : Took is_first u s offered old 0 [] [] old
+  took-none = record { long = refl; are_claimed = refl; allowed = refl; so_far = refl; taken = refl }
 
-    pub taken-new : (now : List Member) → now ≡ members_after is_first u s (take i old) (take i cs) ++ drop i old → set now i new ≡ members_after is_first u s (take (i + 1) old) (take (i + 1) cs) ++ drop (i + 1) old
-    taken-new now so_far =
-        let front = members_after is_first u s (take i old) (take i cs) in
-        one-more front old i below (members-long is_first u s old cs long i below d None) now so_far d new
-        ∙ ap (λ x. (front ++ x ∷ []) ++ drop (i + 1) old) (takes.new_is ∙ (λ j. member_after is_first u s (here j) (claimed-here j)))
-        ∙ ap (λ xs. xs ++ drop (i + 1) old) (sym (members-more is_first u s old cs long i below d None))
-
-  pub refused-here : (e : Unjustified) (before : List ModelAnswer) → MemberRefuses is_first u s m claim e → before ≡ answers_of is_first u s 0 (take i old) (take i cs) → all_justified is_first u s (take i old) (take i cs) ≡ true
-      → RefusesMember is_first u s offered old (record { model = i; before = before; predicted = e.outs.items; due = e.why.due; offered = option_map certificate_of e.why.offered })
-  refused-here e before refuses so_far all =
-      let offer : get_or cs i None ≡ option_map certificate_of e.why.offered = sym claimed-here ∙ ap (claimed_of is_first u s m) refuses.refuses.claim_is in
+  pub took-all : (i : ℕ) (cs : List (Option Certificate)) (seen : List ModelAnswer) (now : List Member) → i ≡ length old
+      → IfSome offered (λ offers. length offers.now ≡ length old) → Took is_first u s offered old i cs seen now → MembersTake is_first u s offered old seen now
+  took-all i cs seen now all many took =
+      let whole : take i old ≡ old = take_all i old (omega arith) in
+      let none : drop i old ≡ [] = drop_all i old (omega arith) in
       record {
-        below = take i old;
-        claims_below = take i cs;
-        member = get_or old i d;
-        above = drop (i + 1) old;
-        claims_above = drop (i + 1) cs;
-        members_are = sym (take-append-drop i old) ∙ ap (λ xs. take i old ++ xs) (drop_more old i d below);
-        claims_are = sym (take-append-drop i cs) ∙ ap (λ xs. take i cs ++ xs) (drop_more cs i None (omega (arith, long))) ∙ ap (λ c. take i cs ++ c ∷ drop (i + 1) cs) offer;
-        model_is = sym (length-take-le i old (omega arith));
-        live = sym (ap (λ (m : Member). m.live) here) ∙ refuses.live;
-        justified_below = all;
-        not_justified = sym (ap (λ (m : Member). justified_of is_first u s m (option_map certificate_of e.why.offered)) here) ∙ refuses.refuses.not_justified;
-        due_is = refuses.refuses.due_is ∙ ap (λ (m : Member). due m.plant s (ahead_of is_first u m).plain) here;
-        before_are = so_far;
-        predicted_are = refuses.refuses.outs_are ∙ ap (λ (m : Member). predicted_outs m.plant s.inputs (ahead_of is_first u m).plain) here;
+        certificates = cs;
+        are_claimed = took.are_claimed ∙ every offered many;
+        allowed = ap (λ ms. all_allowed_of (rule_for offered) is_first u s ms cs) (sym whole) ∙ took.allowed;
+        seen_are = took.so_far ∙ ap (λ ms. answers_of is_first u s 0 ms cs) whole;
+        new_are = took.taken ∙ (λ j. members_after is_first u s (whole j) cs ++ none j) ∙ append-nil (members_after is_first u s old cs);
       }
+    where
+      every : (offered : Option (Bor (List (Option Cert)))) → IfSome offered (λ offers. length offers.now ≡ length old) → take i (all_claimed offered cs) ≡ all_claimed offered cs
+      every None many = let long = took.long in take_all i cs (omega arith)
+      every (Some offers) many = let long = length-map offers.now (option_map certificate_of) in take_all i (map (option_map certificate_of) offers.now) (omega arith)
+
+  module _ (i : ℕ) (below : i < length old) (cs : List (Option Certificate)) (seen : List ModelAnswer) (now : List Member) (took : Took is_first u s offered old i cs seen now) where
+    as_many : length cs ≡ length (take i old)
+    as_many = took.long ∙ sym (length-take-le i old (omega arith))
+
+    front : List Member
+    front = members_after is_first u s (take i old) cs
+
+    front-long : length front ≡ i
+    front-long = members-many is_first u s (take i old) cs as_many ∙ length-take-le i old (omega arith)
+
+    -- the next member is as it was
+    pub took-next : (d : Member) → get_or now i d ≡ get_or old i d
+    took-next d = next-item front old i below front-long now took.taken d
+
+    -- member i, once it is taken
+    module _ (d m : Member) (here : m ≡ get_or old i d) (claim : Claim) (claim_is : claim ≡ claim_at offered i) where
+      pub took-more : (new : Member) (told : Option ModelAnswer) → IfSome offered (λ offers. i < length offers.now) → (takes : MemberTakes is_first u s i m new claim told)
+          → Took is_first u s offered old (i + 1) (cs ++ takes.certificate ∷ []) (seen ++ option_to_list told) (set now i new)
+      took-more new told room takes =
+          let c = takes.certificate in
+          let more : take (i + 1) old ≡ take i old ++ m ∷ [] = take_more old i d below ∙ ap (λ x. take i old ++ x ∷ []) (sym here) in
+          let at : i ≡ 0 + length (take i old) = omega (arith, length-take-le i old (omega arith)) in
+          let rule = rule_for offered in
+          let allowed : (not m.live || allowed_of rule is_first u s m c) ≡ true = ap (λ r. not m.live || allowed_of r is_first u s m c) (sym (rule-here offered i claim claim_is)) ∙ takes.allowed in
+          record {
+            long = length_push cs c ∙ ap (λ n. n + 1) took.long;
+            are_claimed = claimed-more offered i claim claim_is cs c took.long room took.are_claimed takes.is_claimed;
+            allowed = ap (λ ms. all_allowed_of rule is_first u s ms (cs ++ c ∷ [])) more ∙ allowed-push is_first u s rule (take i old) cs m c took.allowed allowed;
+            so_far = (λ j. took.so_far j ++ option_to_list (takes.told_is j)) ∙ sym (answers-push is_first u s 0 (take i old) cs m c i as_many at)
+                ∙ ap (λ ms. answers_of is_first u s 0 ms (cs ++ c ∷ [])) (sym more);
+            taken = one-more front old i below front-long now took.taken d new
+                ∙ ap (λ x. (front ++ x ∷ []) ++ drop (i + 1) old) takes.new_is
+                ∙ ap (λ xs. xs ++ drop (i + 1) old) (sym (members-push is_first u s (take i old) cs m c as_many)
+                ∙ ap (λ ms. members_after is_first u s ms (cs ++ c ∷ [])) (sym more));
+          }
+
+      pub refused-here : (e : Unjustified) → IfSome offered (λ offers. i < length offers.now) → MemberRefuses is_first u s m claim e
+          → RefusesMember is_first u s offered old (record { model = i; before = seen; predicted = e.outs.items; due = e.why.due; offered = option_map certificate_of e.why.offered })
+      refused-here e room refuses =
+          let is = claim-split offered room (sym claim_is ∙ refuses.refuses.claim_is) took.allowed took.are_claimed in
+          record {
+            below = take i old;
+            claims_below = cs;
+            member = m;
+            above = drop (i + 1) old;
+            claims_above = drop (i + 1) (all_claimed offered []);
+            members_are = sym (take-append-drop i old) ∙ ap (λ xs. take i old ++ xs) (drop_more old i d below) ∙ ap (λ x. take i old ++ x ∷ drop (i + 1) old) (sym here);
+            claims_are = is.1;
+            model_is = sym (length-take-le i old (omega arith));
+            live = refuses.live;
+            justified_below = is.0;
+            not_justified = refuses.refuses.not_justified;
+            due_is = refuses.refuses.due_is;
+            before_are = took.so_far;
+            predicted_are = refuses.refuses.outs_are;
+          }
+        where
+          claim-split : (offered : Option (Bor (List (Option Cert)))) → IfSome offered (λ offers. i < length offers.now) → claim_at offered i ≡ Offered e.why.offered
+              → all_allowed_of (rule_for offered) is_first u s (take i old) cs ≡ true → cs ≡ take i (all_claimed offered cs)
+              → (all_allowed_of any_justified is_first u s (take i old) cs ≡ true)
+              × ((own : List (Option Certificate)) → all_claimed offered own ≡ cs ++ option_map certificate_of e.why.offered ∷ drop (i + 1) (all_claimed offered []))
+          claim-split None room is all are = absurd cc
+          claim-split (Some offers) room is all are =
+              let claims = map (option_map certificate_of) offers.now in
+              let many : length claims ≡ length offers.now = length-map offers.now (option_map certificate_of) in
+              let offer : get_or offers.now i None ≡ e.why.offered = cc in
+              let one : get_or claims i None ≡ option_map certificate_of e.why.offered = get_or-map (option_map certificate_of) offers.now i None None room ∙ ap (option_map certificate_of) offer in
+              (
+                all,
+                λ own. sym (take-append-drop i claims) ∙ ap (λ xs. take i claims ++ xs) (drop_more claims i None (omega arith))
+                ∙ (λ j. sym are j ++ one j ∷ drop (i + 1) claims),
+              )
 
 -- the items of a Vec once a list is written back
 pub items-are : {A Z : Type 0} (v : Vec A Z) (new : List A) → length v.items ≡ v.len → length new ≡ length v.items → (with_items v new).items ≡ new

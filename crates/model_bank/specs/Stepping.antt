@@ -1,32 +1,28 @@
 -- What taking a sample does to a bank, for every list of samples and of live models that it stands for.
-use Rattle.std.specs.Prelude.{◌≡◌, ℕ, ℤ, Bool, true, false, List, [], ◌∷◌, ◌++◌, length, Option}
+use Rattle.std.specs.Prelude.{◌≡◌, ℕ, ℤ, Bool, true, false, List, [], ◌∷◌, ◌++◌, length, Option, ◌×◌}
 use Rattle.farkas_check.specs.Certificate.{Certificate}
 use Rattle.plant_model.specs.Plant.{Plant, Sample}
-use Rattle.observer_step.specs.Answers.{any_justified, answer_with, due_at, allows_at}
+use Rattle.observer_step.specs.Answers.{Rule, any_justified, as_run_chooses, answer_with, due_at, allows_at}
 use Rattle.observer_step.specs.SetsAnswers.{sets_observer}
-use Rattle.model_bank.specs.Answers.{ModelAnswer, SampleAnswer, sample_answer, answers_from, live_after, certificates_at, all_allowed}
+use Rattle.model_bank.specs.Answers.{ModelAnswer, SampleAnswer, sample_answer, answers_from, live_after, all_allowed}
 use Rattle.model_bank.specs.Bank.{Bank, BankStands}
 
--- the certificates that are due, or those of the first candidates, where this sample is added to the others
-abbrev pub dues : List Plant → List Sample → Sample → List (Option Certificate)
-dues plants samples s = certificates_at sets_observer plants (samples ++ s ∷ []) (length samples)
+-- the rule allows these certificates, what is seen is the answer of the definitions with them on the samples with this one added,
+-- and the bank then stands for those
+pub record TakesBy (rule : Rule) (s : Sample) (cs : List (Option Certificate)) (plants : List Plant) (samples : List Sample)
+    (lives : List Bool) (seen : SampleAnswer) (new : Bank) : Type 0 where
+  pub allowed : all_allowed rule sets_observer plants lives cs (samples ++ s ∷ []) (length samples) ≡ true
+  pub answer : seen ≡ sample_answer sets_observer plants lives cs (samples ++ s ∷ []) (length samples)
+  pub stands : BankStands plants (samples ++ s ∷ []) (live_after lives cs) new
 
--- what is seen is the answer of the definitions on the samples with this one added, with these certificates
-abbrev pub RecordsSample : Sample → Bank → SampleAnswer → Type 0
-RecordsSample s bank seen = (plants : List Plant) (samples : List Sample) (lives : List Bool) → BankStands plants samples lives bank
-    → seen ≡ sample_answer sets_observer plants lives (dues plants samples s) (samples ++ s ∷ []) (length samples)
+-- whatever the bank stands for, it takes the sample so
+abbrev pub TakesAny : Rule → Sample → List (Option Certificate) → Bank → SampleAnswer → Bank → Type 0
+TakesAny rule s cs old seen new = (plants : List Plant) (samples : List Sample) (lives : List Bool)
+    → BankStands plants samples lives old → TakesBy rule s cs plants samples lives seen new
 
--- the bank then stands for the samples with this one added, and for the live models that have none
-abbrev pub StandsLonger : Sample → Bank → Bank → Type 0
-StandsLonger s old new = (plants : List Plant) (samples : List Sample) (lives : List Bool) → BankStands plants samples lives old
-    → BankStands plants (samples ++ s ∷ []) (live_after lives (dues plants samples s)) new
-
--- every offer is justified, what is seen is the answer with them, and the bank then stands for the samples with this one added
-pub record TakesOffers (s : Sample) (offers : List (Option Certificate)) (plants : List Plant) (samples : List Sample) (lives : List Bool)
-    (seen : SampleAnswer) (new : Bank) : Type 0 where
-  pub justified : all_allowed any_justified sets_observer plants lives offers (samples ++ s ∷ []) (length samples) ≡ true
-  pub answer : seen ≡ sample_answer sets_observer plants lives offers (samples ++ s ∷ []) (length samples)
-  pub stands : BankStands plants (samples ++ s ∷ []) (live_after lives offers) new
+-- it takes it with some certificates that `run` may choose
+abbrev pub TakesChosen : Sample → Bank → SampleAnswer → Bank → Type 0
+TakesChosen s old seen new = (cs : List (Option Certificate)) × TakesAny as_run_chooses s cs old seen new
 
 -- what is told where an offer is not justified: the model, the answers on the live ones below it, its predicted
 -- output intervals, the output that is due for it, and its offer
@@ -58,10 +54,9 @@ pub record RefusesOffer (s : Sample) (offers : List (Option Certificate)) (plant
   pub before_are : refusal.before ≡ answers_from sets_observer 0 plants_below lives_below offers_below (samples ++ s ∷ []) (length samples)
   pub predicted_are : refusal.predicted ≡ (answer_with sets_observer plant (samples ++ s ∷ []) (length samples) refusal.offered).predicted
 
--- whatever the bank stands for, it takes the offers
+-- whatever the bank stands for, it takes the offers, and each is justified
 abbrev pub TakesAnyOffers : Sample → List (Option Certificate) → Bank → SampleAnswer → Bank → Type 0
-TakesAnyOffers s offers old seen new = (plants : List Plant) (samples : List Sample) (lives : List Bool)
-    → BankStands plants samples lives old → TakesOffers s offers plants samples lives seen new
+TakesAnyOffers = TakesAny any_justified
 
 -- whatever the bank stands for, it refuses an offer
 abbrev pub RefusesAnOffer : Sample → List (Option Certificate) → Bank → Refusal → Type 0

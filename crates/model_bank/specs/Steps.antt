@@ -7,8 +7,8 @@ use Rattle.plant_model.specs.Plant.{Plant, Sample}
 use Rattle.observer_step.specs.Predicted.{predicted_outs, hulls}
 use Rattle.observer_step.specs.Offers.{offers_output}
 use Rattle.observer_step.specs.Sets.{Sets, either_leaves, predict_sets, correct_sets, correct_sets_if}
-use Rattle.observer_step.specs.Answers.{Answer}
-use Rattle.observer_step.specs.SetsAnswers.{certificate_of_sets, is_justified_of_sets}
+use Rattle.observer_step.specs.Answers.{Answer, Rule}
+use Rattle.observer_step.specs.SetsAnswers.{is_allowed_of_sets}
 use Rattle.isolate_core.specs.Verdict.{verdict_of, possible_models}
 use Rattle.model_bank.specs.Answers.{ModelAnswer, answer_if, SampleAnswer}
 use Rattle.model_bank.specs.Bank.{Member, Bank}
@@ -38,13 +38,9 @@ sets_on p s e c = correct_sets_if (not (offers_output c)) p s e
 abbrev pub ahead_of : Bool → List ℤ → Member → Sets
 ahead_of is_first u m = sets_ahead is_first u m.plant m.estimate
 
--- the certificate that is due for a member, or that of the first candidate
-abbrev pub due_of : Bool → List ℤ → Sample → Member → Option Certificate
-due_of is_first u s m = certificate_of_sets m.plant s (ahead_of is_first u m)
-
--- the certificate, or none, is justified for a member
-abbrev pub justified_of : Bool → List ℤ → Sample → Member → Option Certificate → Bool
-justified_of is_first u s m c = is_justified_of_sets m.plant s (ahead_of is_first u m) c
+-- the rule allows the certificate, or none, for a member
+abbrev pub allowed_of : Rule → Bool → List ℤ → Sample → Member → Option Certificate → Bool
+allowed_of rule is_first u s m c = is_allowed_of_sets rule m.plant s (ahead_of is_first u m) c
 
 -- the answer on a live member
 abbrev pub answer_of : Bool → List ℤ → Sample → Member → Option Certificate → Answer
@@ -73,12 +69,12 @@ answers_of is_first u s i (m ∷ ms) (c ∷ cs) =
     answer_if m.live i (answer_of is_first u s m c) (answers_of is_first u s (i + 1) ms cs)
 answers_of is_first u s i _ _ = []
 
--- what is said of each member that is live is justified, and something is said of each member
-abbrev pub all_justified : Bool → List ℤ → Sample → List Member → List (Option Certificate) → Bool
-all_justified is_first u s (m ∷ ms) (c ∷ cs) =
-    (not m.live || justified_of is_first u s m c) && all_justified is_first u s ms cs
-all_justified is_first u s [] [] = true
-all_justified is_first u s _ _ = false
+-- the rule allows what is said of each member that is live, and something is said of each member
+abbrev pub all_allowed_of : Rule → Bool → List ℤ → Sample → List Member → List (Option Certificate) → Bool
+all_allowed_of rule is_first u s (m ∷ ms) (c ∷ cs) =
+    (not m.live || allowed_of rule is_first u s m c) && all_allowed_of rule is_first u s ms cs
+all_allowed_of rule is_first u s [] [] = true
+all_allowed_of rule is_first u s _ _ = false
 
 -- which members of a bank are live after the sample
 abbrev pub lives_after : Sample → Bank → List (Option Certificate) → List Bool

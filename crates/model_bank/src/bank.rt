@@ -57,7 +57,7 @@ impl Bank {
     ghost use Rattle.model_bank.specs.Bank.{BankStands, plants_in};
     ghost use Rattle.model_bank.specs.Offers.{BankTakes, BankRefuses};
     ghost use Rattle.model_bank.specs.Seen.{sample_seen, offers_seen, refusal_with, refusal_seen};
-    ghost use Rattle.model_bank.specs.Stepping.{RecordsSample, StandsLonger, TakesAnyOffers, RefusesAnOffer};
+    ghost use Rattle.model_bank.specs.Stepping.{TakesChosen, TakesAnyOffers, RefusesAnOffer};
 
     /// The bank before the first sample. Takes all the memory that a bank needs; the error is want of it.
     pub fn begin(alloc: Global, models: Bank0) -> Result<Bank, AllocError>
@@ -92,8 +92,7 @@ impl Bank {
         requires inputs { length sample.now.u.items ≡ self.old.inputs }
         requires outputs { length sample.now.y.items ≡ self.old.outputs }
         requires counted { self.old.count < 2 ^ 63 }
-        ensures record { RecordsSample (sample_of sample.now) self.old (sample_seen result) }
-        ensures stands { StandsLonger (sample_of sample.now) self.old self.new }
+        ensures taken { TakesChosen (sample_of sample.now) self.old (sample_seen result) self.new }
         ensures inputs { self.new.inputs ≡ self.old.inputs }
         ensures outputs { self.new.outputs ≡ self.old.outputs }
         ensures members { length self.new.members ≡ length self.old.members }
@@ -110,8 +109,7 @@ impl Bank {
         requires inputs { length sample.now.u.items ≡ self.old.inputs }
         requires outputs { length sample.now.y.items ≡ self.old.outputs }
         requires counted { self.old.count < 2 ^ 63 }
-        ensures record { RecordsSample (sample_of sample.now) self.old (sample_seen earlier.new) }
-        ensures stands { StandsLonger (sample_of sample.now) self.old self.new }
+        ensures taken { TakesChosen (sample_of sample.now) self.old (sample_seen earlier.new) self.new }
         ensures inputs { self.new.inputs ≡ self.old.inputs }
         ensures outputs { self.new.outputs ≡ self.old.outputs }
         ensures members { length self.new.members ≡ length self.old.members }
@@ -180,7 +178,7 @@ impl Bank {
         self.take(sample, Some(offered), earlier)
     }
 
-    /// Takes a sample by the certificates that are offered, or by those that it gives, which no model refuses.
+    /// Takes a sample by the certificates that are offered, or by the models' own choices, which no model refuses.
     fn take(
         &mut self,
         sample: &Sample,

@@ -176,7 +176,7 @@ fn judge_by<const N: usize>(
     ensures printable { list_all is_printable_interval (outs_in result) ≡ true }
 {
     match claim {
-        Claim::Due => Ok(estimate.judge(plant, sample, room)),
+        Claim::Own => Ok(estimate.judge(plant, sample, room)),
         Claim::Offered(offered) => estimate.judge_with(plant, sample, room, offered),
     }
 }

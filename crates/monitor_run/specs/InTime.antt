@@ -1,5 +1,5 @@
 -- Which lines have been put by the time that reading or writing fails.
-use Rattle.std.specs.Prelude.{◌≡◌, ℕ, ◌+◌, ◌≤◌, Bool, true, false, List, [], ◌++◌, length, IfSome, Result, Ok, Err}
+use Rattle.std.specs.Prelude.{◌≡◌, ℕ, ◌+◌, ◌≤◌, ◌×◌, Bool, true, false, List, [], ◌++◌, length, IfSome, Result, Ok, Err}
 use Rattle.outside_io.specs.Shelf.{ShelfState}
 use Rattle.outside_io.specs.Sink.{SinkState, Gains}
 use Rattle.plant_model.specs.Plant.{Plant}
@@ -8,63 +8,70 @@ use Rattle.model_file.specs.Bank.{Models}
 use Rattle.model_bank.specs.Bank.{plants_in, names_in}
 use Rattle.report_text.specs.Line.{Line, lines_text}
 use Rattle.report_rules.specs.Lines.{head_lines}
+use Rattle.report_rules.specs.Report.{Choice}
 use Rattle.input_files.specs.Files.{Files, bad_model, bad_header, monitored}
 use Rattle.input_files.specs.Ended.{files_begun, without_last}
 use Rattle.input_files.specs.Left.{left_of}
 use Rattle.input_files.specs.declared.stream.Stream.{Stream}
 use Rattle.input_files.specs.Whole.{most_piece}
-use Rattle.monitor_run.specs.Rows.{due_lines}
+use Rattle.monitor_run.specs.Outcome.{GainsLines}
+use Rattle.monitor_run.specs.Rows.{IsChoice, chosen_lines}
 use Rattle.monitor_run.specs.declared.done.Done.{Done}
 use Rattle.monitor_run.specs.declared.done.RunFault.{RunFault}
 use Rattle.monitor_run.specs.declared.done.RunFault.TheVariants.{Model, Telemetry, Read, Write, Memory}
 
--- the lines of the samples of some rows
-abbrev pub rows_begun : List Plant → Rows → List Line
-rows_begun ps rows = due_lines ps rows.samples (length rows.samples)
+-- lines of the samples of some rows that `run` may put
+abbrev pub AreRowsBegun : List Plant → Rows → List Line → Type 0
+AreRowsBegun ps rows lines = (c : Choice) × IsChoice ps rows.samples c × (lines ≡ chosen_lines ps rows.samples c)
 
--- the lines of the title, of the models and of the samples, without the last line
-abbrev pub report_begun : Models → Rows → List Line
-report_begun ms rows = head_lines (names_in ms) ++ rows_begun (plants_in ms) rows
+-- behind the lines of the title and of the models, and without the last line
+abbrev pub IsReportBegun : Models → Rows → List Line → Type 0
+IsReportBegun ms rows lines =
+    (c : Choice) × IsChoice (plants_in ms) rows.samples c × (lines ≡ head_lines (names_in ms) ++ chosen_lines (plants_in ms) rows.samples c)
 
--- the lines that are due for files that say this so far: none before the header
-abbrev pub begun_of : Files → List Line
-begun_of (bad_model fault) = []
-begun_of (bad_header fault) = []
-begun_of (monitored ms rows) = report_begun ms rows
+-- lines that `run` may have put for files that say this so far: none before the header
+abbrev pub IsBegunOf : Files → List Line → Type 0
+IsBegunOf (bad_model fault) lines = lines ≡ []
+IsBegunOf (bad_header fault) lines = lines ≡ []
+IsBegunOf (monitored ms rows) lines = IsReportBegun ms rows lines
 
--- the lines that are due for the ended lines of a telemetry without its last k bytes
-abbrev pub lines_begun : (model telemetry : List ℕ) → ℕ → List Line
-lines_begun m t k = begun_of (files_begun m (without_last k t))
+-- the same for the ended lines of a telemetry without its last k bytes
+abbrev pub IsBegun : (model telemetry : List ℕ) → ℕ → List Line → Type 0
+IsBegun m t k lines = IsBegunOf (files_begun m (without_last k t)) lines
 
 -- a sink's known bytes grow by these, and maybe by more
 abbrev pub GainsAtLeast : List ℕ → SinkState → SinkState → Type 0
 GainsAtLeast bytes before after = (more : List ℕ) × Gains (bytes ++ more) before after
 
--- Where reading the telemetry failed, exactly what is due for the bytes read was put; where a put failed, at least what is due
--- without the last piece read and the byte before it. `begun k` are the lines due for the telemetry without its last k bytes, and
+-- and these are some lines that are such
+abbrev pub GainsLinesAtLeast : (List Line → Type 0) → SinkState → SinkState → Type 0
+GainsLinesAtLeast are before after = (lines : List Line) × are lines × GainsAtLeast (lines_text lines) before after
+
+-- Where reading the telemetry failed, exactly lines for the bytes read were put; where a put failed, at least lines for those
+-- without the last piece read and the byte before it. `begun k` holds of lines for the telemetry without its last k bytes, and
 -- `left` bytes of it are unread.
-abbrev pub PutsInTime : (ℕ → List Line) → ℕ → SinkState → Result Done RunFault → SinkState → Type 0
+abbrev pub PutsInTime : (ℕ → List Line → Type 0) → ℕ → SinkState → Result Done RunFault → SinkState → Type 0
 PutsInTime begun left before (Ok done) after = Unit
 PutsInTime begun left before (Err (Model fault)) after = Unit
 PutsInTime begun left before (Err (Telemetry fault)) after = Unit
-PutsInTime begun left before (Err (Read slot)) after = slot ≡ 1 → Gains (lines_text (begun left)) before after
-PutsInTime begun left before (Err Write) after = GainsAtLeast (lines_text (begun (left + most_piece + 1))) before after
+PutsInTime begun left before (Err (Read slot)) after = slot ≡ 1 → GainsLines (begun left) before after
+PutsInTime begun left before (Err Write) after = GainsLinesAtLeast (begun (left + most_piece + 1)) before after
 PutsInTime begun left before (Err Memory) after = Unit
 
--- a stream that had not ended was read, and these lines were put for what was read
-pub record ReadInTime (begun : ℕ → List Line) (is_ended : Bool) (unread left : ℕ) (before after : SinkState) : Type 0 where
+-- a stream that had not ended was read, and lines were put for what was read
+pub record ReadInTime (begun : ℕ → List Line → Type 0) (is_ended : Bool) (unread left : ℕ) (before after : SinkState) : Type 0 where
   pub unended : is_ended ≡ false
   pub later : left ≤ unread
-  pub lines : Gains (lines_text (begun left)) before after
+  pub lines : GainsLines (begun left) before after
 
 -- the same of the rows behind a header, where so many bytes were unread
-abbrev pub RowsInTime : (ℕ → List Line) → Bool → ℕ → ℕ → SinkState → Result Done RunFault → SinkState → Type 0
+abbrev pub RowsInTime : (ℕ → List Line → Type 0) → Bool → ℕ → ℕ → SinkState → Result Done RunFault → SinkState → Type 0
 RowsInTime begun is_ended unread left before (Ok done) after = Unit
 RowsInTime begun is_ended unread left before (Err (Model fault)) after = Unit
 RowsInTime begun is_ended unread left before (Err (Telemetry fault)) after = Unit
 RowsInTime begun is_ended unread left before (Err (Read slot)) after = ReadInTime begun is_ended unread left before after
 RowsInTime begun is_ended unread left before (Err Write) after =
-    left + most_piece + 1 ≤ unread → GainsAtLeast (lines_text (begun (left + most_piece + 1))) before after
+    left + most_piece + 1 ≤ unread → GainsLinesAtLeast (begun (left + most_piece + 1)) before after
 RowsInTime begun is_ended unread left before (Err Memory) after = Unit
 
 -- a claim on the telemetry of this name and on how many bytes of it slot 1 has left, where it is attached and both are told

@@ -1,5 +1,5 @@
 -- What the result of a run says of its files, and what it has put.
-use Rattle.std.specs.Prelude.{◌≡◌, ◌≢◌, ◌⊎◌, ℕ, List, Option, Some, None, Result, Ok, Err}
+use Rattle.std.specs.Prelude.{◌≡◌, ◌≢◌, ◌⊎◌, ◌×◌, ℕ, List, Option, Some, None, Result, Ok, Err}
 use Rattle.outside_io.specs.Causes.{Rose}
 use Rattle.outside_io.specs.Shelf.{ShelfState}
 use Rattle.outside_io.specs.Sink.{SinkState, Gains, GainsFront}
@@ -29,14 +29,22 @@ SaysOfFiles (Err (Read slot)) f = Unit
 SaysOfFiles (Err Write) f = Unit
 SaysOfFiles (Err Memory) f = Unit
 
--- the output gains all these lines; where the run was cut short, a front of them
-abbrev pub PutsReport : List Line → SinkState → Result Done RunFault → SinkState → Type 0
-PutsReport lines before (Ok done) after = Gains (lines_text lines) before after
-PutsReport lines before (Err (Model fault)) after = after.held ≡ before.held
-PutsReport lines before (Err (Telemetry fault)) after = Gains (lines_text lines) before after
-PutsReport lines before (Err (Read slot)) after = GainsFront (lines_text lines) before after
-PutsReport lines before (Err Write) after = GainsFront (lines_text lines) before after
-PutsReport lines before (Err Memory) after = GainsFront (lines_text lines) before after
+-- the output gains some lines that are such
+abbrev pub GainsLines : (List Line → Type 0) → SinkState → SinkState → Type 0
+GainsLines are before after = (lines : List Line) × are lines × Gains (lines_text lines) before after
+
+-- it gains a front of some lines that are such
+abbrev pub GainsLinesFront : (List Line → Type 0) → SinkState → SinkState → Type 0
+GainsLinesFront are before after = (lines : List Line) × are lines × GainsFront (lines_text lines) before after
+
+-- the output gains lines that are such; where the run was cut short, a front of some
+abbrev pub PutsReport : (List Line → Type 0) → SinkState → Result Done RunFault → SinkState → Type 0
+PutsReport are before (Ok done) after = GainsLines are before after
+PutsReport are before (Err (Model fault)) after = after.held ≡ before.held
+PutsReport are before (Err (Telemetry fault)) after = GainsLines are before after
+PutsReport are before (Err (Read slot)) after = GainsLinesFront are before after
+PutsReport are before (Err Write) after = GainsLinesFront are before after
+PutsReport are before (Err Memory) after = GainsLinesFront are before after
 
 -- a run that ended at the model file has put nothing, whatever the files are
 abbrev pub PutsNothing : SinkState → Result Done RunFault → SinkState → Type 0

@@ -1,8 +1,9 @@
 -- The rows of a telemetry, and what a run over them says and puts.
-use Rattle.std.specs.Prelude.{◌≡◌, ℕ, List, ◌++◌, length, Some, None, is_none, Result, Ok, Err, IfErr, OnOk, OnErr, ◌≤◌}
+use Rattle.std.specs.Prelude.{◌≡◌, ℕ, ◌<◌, ◌≤◌, ◌×◌, true, List, [], ◌++◌, length, replicate, Some, None, is_none, Result, Ok, Err, IfErr, OnOk, OnErr}
 use Rattle.std.specs.Io.KnownBytes.{IsAtEnd}
 use Rattle.plant_model.specs.Plant.{Plant, Sample}
 use Rattle.telem_csv.specs.Rows.{Rows}
+use Rattle.observer_step.specs.Answers.{as_run_chooses}
 use Rattle.observer_step.specs.SetsAnswers.{sets_observer}
 use Rattle.outside_io.specs.Causes.{Rose}
 use Rattle.outside_io.specs.Shelf.{ShelfState}
@@ -11,7 +12,8 @@ use Rattle.outside_io.specs.declared.sink.PutFault.{PutFault}
 use Rattle.outside_io.specs.declared.sink.PutFault.TheVariants as put
 use Rattle.report_text.specs.Line.{Line, lines_text}
 use Rattle.report_rules.specs.Lines.{last_lines}
-use Rattle.report_rules.specs.Report.{samples_lines, lives_before, due_choice}
+use Rattle.report_rules.specs.Report.{Choice, samples_lines, lives_before}
+use Rattle.model_bank.specs.Answers.{all_allowed}
 use Rattle.model_bank.specs.Bank.{Bank, BankStands}
 use Rattle.monitor_run.specs.declared.done.Done.{Done}
 use Rattle.monitor_run.specs.declared.done.RunFault.{RunFault}
@@ -22,18 +24,30 @@ use Rattle.input_files.specs.declared.stream.StreamFault.TheVariants as stream
 use Rattle.input_files.specs.declared.model.ModelEnding.{ModelEnding}
 use Rattle.input_files.specs.declared.model.ModelEnding.TheVariants as models
 
--- the lines of the first samples, with the certificates that are due, or of the first candidates
-abbrev pub due_lines : List Plant → List Sample → ℕ → List Line
-due_lines ps samples n = samples_lines sets_observer ps samples (due_choice sets_observer ps samples) n
+-- what is said of each model at each of the samples is what `run` may choose
+abbrev pub IsChoice : List Plant → List Sample → Choice → Type 0
+IsChoice ps samples c =
+    (k : ℕ) → k < length samples → all_allowed as_run_chooses sets_observer ps (lives_before c (length ps) k) (c k) samples k ≡ true
+
+-- the lines of the samples with what is chosen
+abbrev pub chosen_lines : List Plant → List Sample → Choice → List Line
+chosen_lines ps samples c = samples_lines sets_observer ps samples c (length samples)
 
 -- the lines of a report behind its head
-abbrev pub rows_lines : List Plant → Rows → List Line
-rows_lines ps rows = due_lines ps rows.samples (length rows.samples) ++ last_lines (length rows.samples) (is_none rows.refusal)
+abbrev pub rows_lines : List Plant → Rows → Choice → List Line
+rows_lines ps rows c = chosen_lines ps rows.samples c ++ last_lines (length rows.samples) (is_none rows.refusal)
 
--- a bank of these plants stands for the samples, and for the models that had no certificate
-abbrev pub StandsDue : List Plant → List Sample → Bank → Type 0
-StandsDue ps samples bank =
-    BankStands ps samples (lives_before (due_choice sets_observer ps samples) (length ps) (length samples)) bank
+-- lines of a report behind its head that `run` may put
+abbrev pub AreRows : List Plant → Rows → List Line → Type 0
+AreRows ps rows lines = (c : Choice) × IsChoice ps rows.samples c × (lines ≡ rows_lines ps rows c)
+
+-- a bank of these plants before the first sample
+abbrev pub StandsNew : List Plant → Bank → Type 0
+StandsNew ps bank = BankStands ps [] (replicate (length ps) true) bank
+
+-- a bank of these plants stands for the samples, and for the models that are not excluded by what is chosen
+abbrev pub StandsChosen : List Plant → List Sample → Choice → Bank → Type 0
+StandsChosen ps samples c bank = BankStands ps samples (lives_before c (length ps) (length samples)) bank
 
 -- the samples taken, and then those of the rows to come
 abbrev pub behind : List Sample → Rows → Rows

@@ -12,11 +12,11 @@ ghost use Rattle.input_files.specs.Files.{files_with};
 ghost use Rattle.input_files.specs.Told.{OnFile, OnFiles, OnLeft, AreRead};
 ghost use Rattle.input_files.specs.Whole.{IsAskedAtMost, TakesAtMost, most_model, most_piece};
 ghost use Rattle.monitor_run.specs.InTime.{PutsInTime, RowsInTime, OnTaken, OnUnreadLeft};
-ghost use Rattle.monitor_run.specs.InTime.{begun_of, lines_begun, report_begun, rows_begun};
-ghost use Rattle.monitor_run.specs.Reports.{report_of, report_of_rows};
+ghost use Rattle.monitor_run.specs.InTime.{IsBegun, IsBegunOf, IsReportBegun, AreRowsBegun};
+ghost use Rattle.monitor_run.specs.Reports.{IsReportOf, IsReportOfRows};
 ghost use Rattle.monitor_run.specs.Outcome.{SaysOfModel, SaysOfFiles, PutsReport, PutsNothing};
 ghost use Rattle.monitor_run.specs.Outcome.{AsksInOrder, IfRead, ReadsFailed, HasWriteCause};
-ghost use Rattle.monitor_run.specs.Rows.{rows_lines, StandsDue, SaysOfRows, EndsRun, PutsLast};
+ghost use Rattle.monitor_run.specs.Rows.{AreRows, StandsNew, SaysOfRows, EndsRun, PutsLast};
 
 use crate::done::{Done, RunFault};
 use input_files::{
@@ -29,7 +29,7 @@ use report_put::{put_end, put_head, put_sample};
 use std::alloc::Global;
 use telem_csv::Header;
 
-/// Puts the report of a model file and a telemetry to `out`, each line as soon as its row is read. Slot 0 of the shelf reads the
+/// Puts a report of a model file and a telemetry to `out`, each line as soon as its row is read. Slot 0 of the shelf reads the
 /// model file, slot 1 the telemetry.
 pub fn monitor<F: Shelf, O: Sink>(
     alloc: Global,
@@ -42,11 +42,11 @@ pub fn monitor<F: Shelf, O: Sink>(
     ensures says_model { OnFile (F.state shelf.old) model.now (SaysOfModel result) }
     ensures says_files { OnFiles (F.state shelf.old) model.now telemetry.now (SaysOfFiles result) }
     ensures puts { OnFiles (F.state shelf.old) model.now telemetry.now
-        (λ files. PutsReport (report_of files) (O.state out.old) result (O.state out.new)) }
+        (λ files. PutsReport (IsReportOf files) (O.state out.old) result (O.state out.new)) }
 
     // Where reading the telemetry failed, the lines of all that was read were put, and where a put failed, nothing was read ahead.
     ensures in_time { OnLeft (F.state shelf.old) (F.state shelf.new) model.now telemetry.now
-        (λ m t left. PutsInTime (lines_begun m t) left (O.state out.old) result (O.state out.new)) }
+        (λ m t left. PutsInTime (IsBegun m t) left (O.state out.old) result (O.state out.new)) }
     ensures model_taken { TakesAtMost (most_model + most_piece) ((F.state shelf.old).file model.now) ((F.state shelf.new).slot 0) }
 
     // A run that ended at the model file has put nothing.
@@ -71,9 +71,9 @@ fn monitor_models<F: Shelf, O: Sink>(
     requires { ((F.state shelf.old).slot 1).asked ≡ None }
     ensures says { OnFile (F.state shelf.old) telemetry.now (λ t. SaysOfFiles result (files_with models t)) }
     ensures puts { OnFile (F.state shelf.old) telemetry.now
-        (λ t. PutsReport (report_of (files_with models t)) (O.state out.old) result (O.state out.new)) }
+        (λ t. PutsReport (IsReportOf (files_with models t)) (O.state out.old) result (O.state out.new)) }
     ensures in_time { OnTaken (F.state shelf.old) (F.state shelf.new) telemetry.now
-        (λ t left. PutsInTime (λ k. begun_of (begun_with models (without_last k t)))
+        (λ t left. PutsInTime (λ k. IsBegunOf (begun_with models (without_last k t)))
         left (O.state out.old) result (O.state out.new)) }
     ensures ends { EndsRun (F.state shelf.old) (F.state shelf.new) (O.state out.old) result (O.state out.new) }
     ensures asked { IsAskedAtMost telemetry.now ((F.state shelf.new).slot 1) }
@@ -105,9 +105,9 @@ fn put_report<F: Shelf, O: Sink>(
     requires short { (current stream.old.cutter).room < 2 ^ 63 }
     ensures says { OnRows 1 head.now stream.old (F.state shelf.old) (SaysOfRows result) }
     ensures puts { OnRows 1 head.now stream.old (F.state shelf.old)
-        (λ rows. PutsReport (report_of_rows models rows) (O.state out.old) result (O.state out.new)) }
+        (λ rows. PutsReport (IsReportOfRows models rows) (O.state out.old) result (O.state out.new)) }
     ensures in_time { OnUnreadLeft stream.old (F.state shelf.old) (F.state shelf.new) (λ unread left. RowsInTime
-        (λ k. report_begun models (rows_ended head.now stream.old.cutter (without_last k unread)))
+        (λ k. IsReportBegun models (rows_ended head.now stream.old.cutter (without_last k unread)))
         stream.old.is_ended (length unread) left (O.state out.old) result (O.state out.new)) }
     ensures ends { EndsRun (F.state shelf.old) (F.state shelf.new) (O.state out.old) result (O.state out.new) }
     ensures kept { ReadsOn 1 (F.state shelf.old) (F.state shelf.new) }
@@ -136,11 +136,11 @@ fn put_rows<F: Shelf, O: Sink>(
     requires begins { bank.old.count ≡ 0 }
     requires short { (current stream.old.cutter).room < 2 ^ 63 }
     ensures says { OnRows 1 head.now stream.old (F.state shelf.old) (SaysOfRows result) }
-    ensures puts { (ps : List Plant) → StandsDue ps [] bank.old → OnRows 1 head.now stream.old (F.state shelf.old)
-        (λ rows. PutsReport (rows_lines ps rows) (O.state out.old) result (O.state out.new)) }
-    ensures in_time { (ps : List Plant) → StandsDue ps [] bank.old
+    ensures puts { (ps : List Plant) → StandsNew ps bank.old → OnRows 1 head.now stream.old (F.state shelf.old)
+        (λ rows. PutsReport (AreRows ps rows) (O.state out.old) result (O.state out.new)) }
+    ensures in_time { (ps : List Plant) → StandsNew ps bank.old
         → OnUnreadLeft stream.old (F.state shelf.old) (F.state shelf.new) (λ unread left. RowsInTime
-        (λ k. rows_begun ps (rows_ended head.now stream.old.cutter (without_last k unread)))
+        (λ k. AreRowsBegun ps (rows_ended head.now stream.old.cutter (without_last k unread)))
         stream.old.is_ended (length unread) left (O.state out.old) result (O.state out.new)) }
     ensures ends { EndsRun (F.state shelf.old) (F.state shelf.new) (O.state out.old) result (O.state out.new) }
     ensures kept { ReadsOn 1 (F.state shelf.old) (F.state shelf.new) }

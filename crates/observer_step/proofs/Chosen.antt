@@ -1,13 +1,14 @@
--- The certificate that a sample gives is one that may be chosen.
-use Rattle.std.proofs.Common.{◌≡◌, ℕ, ◌==◌, List, [], ◌∷◌, ℤ, Bool, true, ◌&&◌, Option, None, Some, refl, ap, ◌∙◌, arith}
+-- Which certificates `run` may choose.
+use Rattle.std.proofs.Common.{◌≡◌, ℕ, ◌==◌, List, [], ◌∷◌, ℤ, Bool, true, false, not, ◌&&◌, is_none, Option, None, Some, refl, ap, sym, ◌∙◌, arith, if◌then◌else◌}
 use Rattle.std.specs.Ordering.{int_eq}
 use Rattle.std.proofs.lemmas.Int.{ints}
 use Rattle.std.proofs.lemmas.Bool.Decides.{nat_tests}
 use lib.Pointwise.{pointwise}
-use Rattle.observer_step.specs.Predicted.{due}
-use Rattle.observer_step.specs.Answers.{is_chosen, certificate_by}
-use Rattle.observer_step.specs.Sets.{correct_sets}
-use Rattle.observer_step.specs.SetsAnswers.{refutes_kept, candidate_of, CertificateIsChosen}
+use Rattle.farkas_check.specs.Certificate.{Certificate, by_out, by_rows}
+use Rattle.farkas_check.specs.Multipliers.{are_multipliers}
+use Rattle.observer_step.specs.Answers.{is_chosen, is_justified, certificate_by}
+use Rattle.observer_step.specs.Offers.{offers_output}
+use Rattle.observer_step.specs.SetsAnswers.{if_multipliers}
 
 same-list : (xs : List ℤ) → pointwise int_eq xs xs ≡ true
 same-list [] = refl
@@ -16,15 +17,58 @@ same-list (x ∷ xs) = ap (λ b. b && pointwise int_eq xs xs) (itself x) ∙ sam
     itself : (x : ℤ) → int_eq x x ≡ true
     itself x = grind (arith, ints, nat_tests)
 
+list-same : (xs ys : List ℤ) → pointwise int_eq xs ys ≡ true → xs ≡ ys
+list-same [] [] is = refl
+list-same [] (y ∷ ys) is = absurd cc
+list-same (x ∷ xs) [] is = absurd cc
+list-same (x ∷ xs) (y ∷ ys) is = by (int_eq x y) refl is
+  where
+    equal : int_eq x y ≡ true → x ≡ y
+    equal e = grind (arith, ints, nat_tests)
+
+    by : (b : Bool) → int_eq x y ≡ b → b && pointwise int_eq xs ys ≡ true → x ∷ xs ≡ y ∷ ys
+    by true e rest = λ i. equal e i ∷ list-same xs ys rest i
+    by false e rest = absurd cc
+
 same-output : (o : ℕ) → (o == o) ≡ true
 same-output o = grind (arith, nat_tests)
 
-pub chosen : (output : Option ℕ) (refutes : List ℤ → Bool) (first : Option (List ℤ)) → is_chosen output refutes first (certificate_by output first) ≡ true
-chosen (Some o) refutes first = same-output o
-chosen None refutes None = refl
-chosen None refutes (Some list) = same-list list
+module _ (refutes : List ℤ → Bool) where
+  -- the due one, or else that of the first candidate, is one
+  pub chosen : (output : Option ℕ) (first : Option (List ℤ)) → is_chosen output refutes first (certificate_by output first) ≡ true
+  chosen (Some o) first = same-output o
+  chosen None None = refl
+  chosen None (Some list) = same-list list
 
-pub certificate-chosen : CertificateIsChosen
-certificate-chosen p s e =
-    let z = (correct_sets p s e).constrained in
-    chosen (due p s e.plain) (refutes_kept z) (candidate_of z)
+  -- it is justified, where candidates refute
+  pub chosen-justified : (output : Option ℕ) (first : Option (List ℤ)) (c : Option Certificate)
+      → ((list : List ℤ) → first ≡ Some list → refutes list && are_multipliers list ≡ true)
+      → is_chosen output refutes first c ≡ true → is_justified output refutes c ≡ true
+  chosen-justified (Some o) first c good is = is
+  chosen-justified None None c good is = is
+  chosen-justified None (Some l) None good is = absurd cc
+  chosen-justified None (Some l) (Some (by_out p)) good is = absurd cc
+  chosen-justified None (Some l) (Some (by_rows ls)) good is = ap (λ l. refutes l && are_multipliers l) (list-same ls l is) ∙ good l refl
+
+  -- the readings are taken unless it is an output
+  pub taken-chosen : (output : Option ℕ) (first : Option (List ℤ)) (c : Option Certificate) → is_chosen output refutes first c ≡ true
+      → is_none output ≡ not (offers_output c)
+  taken-chosen (Some o) first None is = absurd cc
+  taken-chosen (Some o) first (Some (by_out p)) is = refl
+  taken-chosen (Some o) first (Some (by_rows ls)) is = absurd cc
+  taken-chosen None first None is = refl
+  taken-chosen None None (Some (by_out p)) is = absurd cc
+  taken-chosen None (Some l) (Some (by_out p)) is = absurd cc
+  taken-chosen None first (Some (by_rows ls)) is = refl
+
+  -- the list of a candidate may be chosen
+  pub candidate-chosen : (first : Option (List ℤ)) (list : List ℤ) → Some list ≡ first → are_multipliers list ≡ true
+      → is_chosen None refutes (if_multipliers first) (Some (by_rows list)) ≡ true
+  candidate-chosen first list is good =
+      let kept : if_multipliers first ≡ Some list = ap if_multipliers (sym is) ∙ ap (λ b. if b then Some list else None) good in
+      ap (λ f. is_chosen None refutes f (Some (by_rows list))) kept ∙ same-list list
+
+  -- where there is no candidate, all that is justified may be
+  pub proposed-chosen : (first : Option (List ℤ)) (c : Option Certificate) → None ≡ first → is_justified None refutes c ≡ true
+      → is_chosen None refutes (if_multipliers first) c ≡ true
+  proposed-chosen first c is justified = ap (λ f. is_chosen None refutes (if_multipliers f) c) (sym is) ∙ justified

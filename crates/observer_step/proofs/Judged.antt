@@ -9,12 +9,12 @@ use Rattle.fixed_mat.specs.declared.reading.Reading.{Reading}
 use Rattle.fixed_mat.specs.declared.reading.Reading.TheVariants.{Missing}
 use Rattle.plant_model.specs.Plant.{Plant, Sample, no_sample, sample_at, known, reading_at}
 use Rattle.observer_step.specs.Predicted.{out_of, predicted_outs, reading_misses, due}
-use Rattle.observer_step.specs.Answers.{due_at, certificate_by, certificate_at, is_justified, any_justified, allows_at}
+use Rattle.observer_step.specs.Answers.{due_at, Rule, is_chosen, is_justified, any_justified, as_run_chooses, is_allowed, allows_at}
 use Rattle.observer_step.specs.Offers.{offers_output}
 use Rattle.observer_step.specs.Sets.{Sets, correct_sets, correct_sets_if, predicted_sets, corrected_sets, SetsReady, SetsCorrected}
-use Rattle.observer_step.specs.SetsAnswers.{sets_observer, refutes_kept, candidate_of, certificate_of_sets, is_justified_of_sets}
-use Rattle.observer_step.specs.SetsAnswers.{sets_offered, Judges, Justifies}
-use Rattle.observer_step.proofs.Offered.{none-due, taken-justified}
+use Rattle.observer_step.specs.SetsAnswers.{sets_observer, refutes_kept, candidate_of, is_allowed_of_sets, is_justified_of_sets, sets_offered, Judges}
+use Rattle.observer_step.proofs.Chosen.{taken-chosen}
+use Rattle.observer_step.proofs.Offered.{taken-justified}
 use Rattle.observer_step.proofs.SetsHold.{later-sets}
 
 -- the least number that passes depends on the tests below the bound alone
@@ -57,11 +57,8 @@ module _ (p : Plant) (s : Sample) (e : Sets) (samples : List Sample) (ready : Se
   corrected-same : correct_sets p s e ≡ corrected_sets p all (length samples)
   corrected-same = λ i. correct_sets p (sym here i) (sets i)
 
-  certificate-here : certificate_of_sets p s e ≡ certificate_at sets_observer p all (length samples)
-  certificate-here = λ i. certificate_by (due-here i) (candidate_of (corrected-same i).constrained)
-
-  justified-here : (c : Option Certificate) → is_justified_of_sets p s e c ≡ allows_at any_justified sets_observer p all (length samples) c
-  justified-here c = λ i. is_justified (due-here i) (refutes_kept (corrected-same i).constrained) c
+  allowed-here : (rule : Rule) (c : Option Certificate) → is_allowed_of_sets rule p s e c ≡ allows_at rule sets_observer p all (length samples) c
+  allowed-here rule c = λ i. is_allowed rule (due-here i) (refutes_kept (corrected-same i).constrained) (candidate_of (corrected-same i).constrained) c
 
   corrected-here : (e' : Sets) → e' ≡ correct_sets p s e → SetsCorrected p all e'
   corrected-here e' is =
@@ -72,23 +69,32 @@ module _ (p : Plant) (s : Sample) (e : Sets) (samples : List Sample) (ready : Se
         is = is ∙ corrected-same ∙ ap (corrected_sets p all) last;
       }
 
--- the certificate that is given where the sets take the readings unless an output is due
-pub given : (p : Plant) (s : Sample) (e e' : Sets) (d : Option ℕ) → d ≡ due p s e.plain → e' ≡ correct_sets_if (true && is_none d) p s e
-    → certificate_by d (candidate_of e'.constrained) ≡ certificate_of_sets p s e
-given p s e e' d due_is sets = by d sets ∙ ap (λ d. certificate_by d (candidate_of (correct_sets p s e).constrained)) due_is
+-- what may be chosen by the rows that are kept after it, where the sets take the readings unless an output is due
+pub chosen-then : (p : Plant) (s : Sample) (e e' : Sets) (c : Option Certificate) (d : Option ℕ) → d ≡ due p s e.plain → e' ≡ correct_sets_if (true && is_none d) p s e
+    → is_chosen d (refutes_kept e'.constrained) (candidate_of e'.constrained) c ≡ true → is_allowed_of_sets as_run_chooses p s e c ≡ true
+chosen-then p s e e' c d due_is sets chosen =
+    let z = (correct_sets p s e).constrained in
+    ap (λ d. is_chosen d (refutes_kept z) (candidate_of z) c) (sym due_is) ∙ by d c sets chosen
   where
-    by : (d : Option ℕ) → e' ≡ correct_sets_if (true && is_none d) p s e
-        → certificate_by d (candidate_of e'.constrained) ≡ certificate_by d (candidate_of (correct_sets p s e).constrained)
-    by (Some o) sets = refl
-    by None sets = ap (λ (e : Sets). certificate_by None (candidate_of e.constrained)) sets
+    by : (d : Option ℕ) (c : Option Certificate) → e' ≡ correct_sets_if (true && is_none d) p s e → is_chosen d (refutes_kept e'.constrained) (candidate_of e'.constrained) c ≡ true
+        → is_chosen d (refutes_kept (correct_sets p s e).constrained) (candidate_of (correct_sets p s e).constrained) c ≡ true
+    by (Some o) None sets h = absurd cc
+    by (Some o) (Some (by_out q)) sets h = h
+    by (Some o) (Some (by_rows ls)) sets h = absurd cc
+    by None c sets h = ap (λ (x : Sets). is_chosen None (refutes_kept x.constrained) (candidate_of x.constrained) c) (sym sets) ∙ h
 
 -- what holds of sets that are ready holds of the telemetry
-pub judges : (p : Plant) (s : Sample) (e e' : Sets) (cert : Option Certificate) → cert ≡ certificate_of_sets p s e
-    → e' ≡ correct_sets_if (is_none (due p s e.plain)) p s e → Judges p s e e' cert
-judges p s e e' cert is sets samples ready =
-    let due_is = due p s e.plain in
-    let fits = λ (none : cert ≡ None). sets ∙ ap (λ b. correct_sets_if b p s e) (none-due due_is (candidate_of (correct_sets p s e).constrained) (sym is ∙ none)) in
-    (is ∙ certificate-here p s e samples ready, λ none. corrected-here p s e samples ready e' (fits none))
+judges : (rule : Rule) (p : Plant) (s : Sample) (e e' : Sets) (cert : Option Certificate) → is_allowed_of_sets rule p s e cert ≡ true
+    → (cert ≡ None → e' ≡ correct_sets p s e) → Judges rule p s e e' cert
+judges rule p s e e' cert allowed fits samples ready =
+    (sym (allowed-here p s e samples ready rule cert) ∙ allowed, λ none. corrected-here p s e samples ready e' (fits none))
+
+pub chosen-judges : (p : Plant) (s : Sample) (e e' : Sets) (cert : Option Certificate) → is_allowed_of_sets as_run_chooses p s e cert ≡ true
+    → e' ≡ correct_sets_if (is_none (due p s e.plain)) p s e → Judges as_run_chooses p s e e' cert
+chosen-judges p s e e' cert chosen sets =
+    let z = (correct_sets p s e).constrained in
+    let taken = taken-chosen (refutes_kept z) (due p s e.plain) (candidate_of z) cert chosen in
+    judges as_run_chooses p s e e' cert chosen (λ none. sets ∙ ap (λ b. correct_sets_if b p s e) (taken ∙ ap (λ c. not (offers_output c)) none))
 
 -- what is justified by the rows that are kept after it
 pub justified-then : (p : Plant) (s : Sample) (e e' : Sets) (offered : Option Certificate) (d : Option ℕ) → d ≡ due p s e.plain → e' ≡ sets_offered p s e offered
@@ -107,8 +113,8 @@ justified-then p s e e' offered d due_is sets justified =
     by None (Some (by_rows ls)) sets h = ap (λ (x : Sets). is_justified None (refutes_kept x.constrained) (Some (by_rows ls))) (sym sets) ∙ h
 
 pub justifies : (p : Plant) (s : Sample) (e e' : Sets) (cert offered : Option Certificate) → cert ≡ offered
-    → is_justified_of_sets p s e offered ≡ true → e' ≡ sets_offered p s e offered → Justifies p s e e' cert
-justifies p s e e' cert offered is justified sets samples ready =
+    → is_justified_of_sets p s e offered ≡ true → e' ≡ sets_offered p s e offered → Judges any_justified p s e e' cert
+justifies p s e e' cert offered is justified sets =
     let taken = taken-justified (due p s e.plain) (refutes_kept (correct_sets p s e).constrained) offered justified in
-    let fits = λ (none : cert ≡ None). sets ∙ ap (λ b. correct_sets_if b p s e) (taken ∙ ap (λ c. not (offers_output c)) (sym is ∙ none)) in
-    (sym (justified-here p s e samples ready cert) ∙ ap (is_justified_of_sets p s e) is ∙ justified, λ none. corrected-here p s e samples ready e' (fits none))
+    judges any_justified p s e e' cert (ap (is_justified_of_sets p s e) is ∙ justified)
+    (λ none. sets ∙ ap (λ b. correct_sets_if b p s e) (taken ∙ ap (λ c. not (offers_output c)) (sym is ∙ none)))

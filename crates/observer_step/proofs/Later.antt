@@ -6,10 +6,11 @@ use Rattle.set_rules.specs.Farkas.{passes, candidates, first_candidate}
 use Rattle.farkas_check.specs.Multipliers.{are_multipliers}
 use Rattle.plant_model.specs.Plant.{Plant, Sample, no_sample, sample_at}
 use Rattle.observer_step.specs.Predicted.{due}
-use Rattle.observer_step.specs.Answers.{Rule, any_justified, due_at, certificate_at, allows_at}
+use Rattle.observer_step.specs.Answers.{Rule, due_at, certificate_at, allows_at}
 use Rattle.observer_step.specs.Sets.{Sets, either_leaves, correct_sets, predicted_sets, corrected_sets, sets_widened}
-use Rattle.observer_step.specs.SetsAnswers.{sets_observer, refutes_kept, candidate_of, if_multipliers, certificate_of_sets, is_justified_of_sets}
+use Rattle.observer_step.specs.SetsAnswers.{sets_observer, refutes_kept, candidate_of, if_multipliers, ChosenIsJustified}
 use Rattle.observer_step.proofs.SetsHold.{later-sets}
+use Rattle.observer_step.proofs.Chosen.{chosen-justified}
 use Rattle.observer_step.proofs.Offered.{given-allowed}
 
 module _ (samples more : List Sample) where
@@ -66,13 +67,13 @@ candidate-refutes z list is = by (first_candidate (length z.base.columns) z.rows
         let passing = found-passes (passes (length z.base.columns) z.rows) (candidates (length z.base.columns) z.rows) found e in
         ap (λ l. refutes_kept z l && are_multipliers l) (sym is.0) ∙ ap (λ b. b && are_multipliers found) passing ∙ is.1
 
--- so the certificate that is given is justified
-pub given-justified : (p : Plant) (s : Sample) (e : Sets) → is_justified_of_sets p s e (certificate_of_sets p s e) ≡ true
-given-justified p s e =
+-- so what `run` may choose is justified
+pub chosen-is-justified : ChosenIsJustified
+chosen-is-justified p s e c =
     let z = (correct_sets p s e).constrained in
-    given-allowed any_justified (due p s e.plain) (refutes_kept z) (candidate_of z) (candidate-refutes z)
+    chosen-justified (refutes_kept z) (due p s e.plain) (candidate_of z) c (candidate-refutes z)
 
--- and that of a sample is allowed by each rule
+-- the certificate of the output that is due, or else of the first candidate, is allowed by each rule
 pub certificate-allowed : (rule : Rule) (p : Plant) (samples : List Sample) (k : ℕ)
     → allows_at rule sets_observer p samples k (certificate_at sets_observer p samples k) ≡ true
 certificate-allowed rule p samples k =

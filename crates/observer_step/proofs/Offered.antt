@@ -16,22 +16,11 @@ taken-justified (Some o) refutes None h = absurd cc
 taken-justified (Some o) refutes (Some (by_out p)) h = refl
 taken-justified (Some o) refutes (Some (by_rows ls)) h = absurd cc
 
--- and where the certificate that is given is none
-pub taken-given : (d : Option ℕ) (first : Option (List ℤ)) → is_none d ≡ not (offers_output (certificate_by d first))
-taken-given (Some o) first = refl
-taken-given None None = refl
-taken-given None (Some list) = refl
-
--- where none is given, none is due
-pub none-due : (d : Option ℕ) (first : Option (List ℤ)) → certificate_by d first ≡ None → is_none d ≡ true
-none-due (Some o) first h = absurd cc
-none-due None first h = refl
-
--- the certificate that is given is allowed by each rule, where candidates refute
+-- the certificate of the output that is due, or else of the first candidate, is allowed by each rule, where candidates refute
 pub given-allowed : (rule : Rule) (d : Option ℕ) (refutes : List ℤ → Bool) (first : Option (List ℤ))
     → ((list : List ℤ) → first ≡ Some list → refutes list && are_multipliers list ≡ true)
     → is_allowed rule d refutes first (certificate_by d first) ≡ true
 given-allowed any_justified (Some o) refutes first good = eq-eqb o o refl
 given-allowed any_justified None refutes None good = refl
 given-allowed any_justified None refutes (Some list) good = good list refl
-given-allowed as_run_chooses d refutes first good = chosen d refutes first
+given-allowed as_run_chooses d refutes first good = chosen refutes d first

@@ -7,7 +7,7 @@ use Rattle.farkas_check.specs.Multipliers.{are_multipliers}
 use Rattle.farkas_check.specs.declared.certificate.Cert.{Cert}
 use Rattle.plant_model.specs.Plant.{Plant, Sample}
 use Rattle.observer_step.specs.Predicted.{due}
-use Rattle.observer_step.specs.Answers.{Observer, certificate_by, certificate_at, is_chosen, is_justified, any_justified, allows_at}
+use Rattle.observer_step.specs.Answers.{Observer, Rule, any_justified, as_run_chooses, is_allowed, allows_at}
 use Rattle.observer_step.specs.Offers.{offers_output}
 use Rattle.observer_step.specs.Seen.{certificate_in}
 use Rattle.observer_step.specs.declared.outcome.Outcome.{Outcome}
@@ -37,14 +37,10 @@ sets_observer = record {
   candidate = λ p samples k. candidate_of (corrected_sets p samples k).constrained;
 }
 
--- the certificate that a sample gives: the due one, or else that of the first candidate that refutes the rows kept then
-abbrev pub certificate_of_sets : Plant → Sample → Sets → Option Certificate
-certificate_of_sets p s e = certificate_by (due p s e.plain) (candidate_of (correct_sets p s e).constrained)
-
--- it is one that `run` may choose
-abbrev pub CertificateIsChosen : Type 0
-CertificateIsChosen = (p : Plant) (s : Sample) (e : Sets) → let z = (correct_sets p s e).constrained in
-    is_chosen (due p s e.plain) (refutes_kept z) (candidate_of z) (certificate_of_sets p s e) ≡ true
+-- the rule allows the certificate, or none, for the sample: by the output that is due, and by the rows kept then
+abbrev pub is_allowed_of_sets : Rule → Plant → Sample → Sets → Option Certificate → Bool
+is_allowed_of_sets rule p s e c = let z = (correct_sets p s e).constrained in
+    is_allowed rule (due p s e.plain) (refutes_kept z) (candidate_of z) c
 
 -- both sets after the sample: they take the readings where no output is due and none is offered
 abbrev pub sets_offered : Plant → Sample → Sets → Option Certificate → Sets
@@ -52,7 +48,12 @@ sets_offered p s e offered = correct_sets_if (not (offers_output offered) && is_
 
 -- what is offered is justified: it is the due certificate; or none is due, and it is none, or multipliers that refute the rows kept then
 abbrev pub is_justified_of_sets : Plant → Sample → Sets → Option Certificate → Bool
-is_justified_of_sets p s e offered = is_justified (due p s e.plain) (refutes_kept (correct_sets p s e).constrained) offered
+is_justified_of_sets = is_allowed_of_sets any_justified
+
+-- what `run` may choose is justified
+abbrev pub ChosenIsJustified : Type 0
+ChosenIsJustified = (p : Plant) (s : Sample) (e : Sets) (c : Option Certificate)
+    → is_allowed_of_sets as_run_chooses p s e c ≡ true → is_justified_of_sets p s e c ≡ true
 
 -- what is offered is justified, and it is the outcome
 pub record SetsTake (p : Plant) (s : Sample) (e : Sets) (offered : Option Cert) (outcome : Outcome) : Type 0 where
@@ -70,16 +71,9 @@ abbrev pub SetsAnswer : Plant → Sample → Sets → Option Cert → Result Out
 SetsAnswer p s e offered (Ok outcome) = SetsTake p s e offered outcome
 SetsAnswer p s e offered (Err why) = SetsRefuse p s e offered why
 
--- where e is ready for the sample s after some samples, the certificate is that of the definitions there; and if there is none,
--- e' is corrected by s
-abbrev pub Judges : Plant → Sample → Sets → Sets → Option Certificate → Type 0
-Judges p s e e' cert = (samples : List Sample) → SetsReady p samples e
-    → (cert ≡ certificate_at sets_observer p (samples ++ s ∷ []) (length samples))
-    × (cert ≡ None → SetsCorrected p (samples ++ s ∷ []) e')
-
--- where e is ready for the sample s after some samples, the certificate, or none, is justified there; and if there is none, e' is
+-- where e is ready for the sample s after some samples, the rule allows the certificate, or none, there; and if there is none, e' is
 -- corrected by s
-abbrev pub Justifies : Plant → Sample → Sets → Sets → Option Certificate → Type 0
-Justifies p s e e' cert = (samples : List Sample) → SetsReady p samples e
-    → (allows_at any_justified sets_observer p (samples ++ s ∷ []) (length samples) cert ≡ true)
+abbrev pub Judges : Rule → Plant → Sample → Sets → Sets → Option Certificate → Type 0
+Judges rule p s e e' cert = (samples : List Sample) → SetsReady p samples e
+    → (allows_at rule sets_observer p (samples ++ s ∷ []) (length samples) cert ≡ true)
     × (cert ≡ None → SetsCorrected p (samples ++ s ∷ []) e')

@@ -1,6 +1,6 @@
 //! The estimate of one model: the two sets that follow its plant through the telemetry.
 
-ghost use Rattle.std.specs.Prelude.{IsTrue, ◌≡◌, ◌+◌, ◌<◌, ◌≤◌, ◌&&◌, not, [], true, length};
+ghost use Rattle.std.specs.Prelude.{IsTrue, ◌≡◌, ◌+◌, ◌<◌, ◌≤◌, ◌&&◌, not, [], true, length, None};
 ghost use Rattle.std.specs.Prelude.{is_none, option_map, unsigned_abs, if◌then◌else◌, IfOk};
 ghost use Rattle.std.specs.List.{list_all};
 ghost use Rattle.set_rules.specs.Box.{hull as hull_of};
@@ -10,12 +10,11 @@ ghost use Rattle.set_rules.specs.Zono.{range};
 ghost use Rattle.plant_model.specs.Plant.{AllWithinLimit};
 ghost use Rattle.plant_model.specs.Seen.{sample_of};
 ghost use Rattle.observer_step.specs.Predicted.{predicted_outs, due};
-ghost use Rattle.set_rules.specs.Farkas.{first_candidate as first_candidate_of};
+ghost use Rattle.set_rules.specs.Farkas.{first_candidate as first_candidate_of, passes as passes_of};
 ghost use Rattle.farkas_check.specs.Certificate.{certificate_of};
 ghost use Rattle.observer_step.specs.Seen.{was_widened, certificate_in, is_printable_interval};
-ghost use Rattle.observer_step.specs.Answers.{certificate_by};
-ghost use Rattle.observer_step.specs.SetsAnswers.{certificate_of_sets, if_multipliers, sets_offered, SetsAnswer};
-ghost use Rattle.observer_step.specs.SetsAnswers.{Judges, Justifies};
+ghost use Rattle.observer_step.specs.Answers.{any_justified, as_run_chooses, is_chosen, is_justified as is_justified_of};
+ghost use Rattle.observer_step.specs.SetsAnswers.{if_multipliers, sets_offered, is_allowed_of_sets, SetsAnswer, Judges};
 ghost use Rattle.observer_step.specs.Offers.{outs_in, answer_in};
 ghost use Rattle.observer_step.specs.Predicted.{first_set};
 ghost use Rattle.observer_step.specs.Estimate.{image_of, trim, state_box as state_box_of, image_columns};
@@ -31,9 +30,10 @@ use crate::rows::keep_readings;
 use crate::{Judgement, Kept, NotJustified, Outcome, PLAIN_COLUMNS, Unjustified};
 use arrayvec::ArrayVec;
 use czono_set::Czono;
-use farkas_check::{Cert, first_candidate};
-use fixed_mat::{Mat, Rows};
+use farkas_check::{Cert, first_candidate, passes};
+use fixed_mat::{Mat, Reading, Rows};
 use plant_model::{Plant, Sample};
+use simplex_guess::{Pivots, propose};
 use std::marker::Model;
 use zono_set::{Refusals, Zono};
 
@@ -102,14 +102,15 @@ impl<const N: usize> Est<N> {
     }
 
     /// What the sample says of the model: the due certificate names the least output that misses, and the sets stay. Where none
-    /// is due both take the readings, and the first candidate that refutes the kept rows is the certificate.
+    /// is due both take the readings, and the first candidate that refutes the kept rows is the certificate; where there is no
+    /// such candidate it is what the search proposes, if that refutes them, or none.
     pub fn correct(&mut self, plant: &Plant<N>, sample: &Sample) -> Outcome
         requires inputs { length sample.now.u.items ≡ plant.now.inputs }
         requires outputs { length sample.now.y.items ≡ plant.now.outputs }
-        ensures outcome { certificate_in result ≡ certificate_of_sets plant.now (sample_of sample.now) self.old }
+        ensures outcome { is_allowed_of_sets as_run_chooses plant.now (sample_of sample.now) self.old (certificate_in result) ≡ true }
         ensures sets { self.new
             ≡ correct_sets_if (is_none (due plant.now (sample_of sample.now) self.old.plain)) plant.now (sample_of sample.now) self.old }
-        ensures stands { Judges plant.now (sample_of sample.now) self.old self.new (certificate_in result) }
+        ensures stands { Judges as_run_chooses plant.now (sample_of sample.now) self.old self.new (certificate_in result) }
     {
         let mut room = Room::new();
         self.judge(plant, sample, &mut room).outcome
@@ -129,7 +130,7 @@ impl<const N: usize> Est<N> {
         ensures sets { self.new
             ≡ sets_offered plant.now (sample_of sample.now) self.old (option_map certificate_of offered) }
         ensures stands { IfOk result (λ outcome.
-            Justifies plant.now (sample_of sample.now) self.old self.new (certificate_in outcome)) }
+            Judges any_justified plant.now (sample_of sample.now) self.old self.new (certificate_in outcome)) }
     {
         let mut room = Room::new();
         match self.judge_with(plant, sample, &mut room, offered) {
@@ -173,13 +174,13 @@ impl<const N: usize> Est<N> {
         requires outputs { length sample.now.y.items ≡ plant.now.outputs }
         ensures outs { result.outs.items ≡ predicted_outs plant.now sample.now.u.items self.old.plain }
         ensures printable { list_all is_printable_interval result.outs.items ≡ true }
-        ensures outcome { certificate_in result.outcome ≡ certificate_of_sets plant.now (sample_of sample.now) self.old }
+        ensures outcome { is_allowed_of_sets as_run_chooses plant.now (sample_of sample.now) self.old (certificate_in result.outcome) ≡ true }
         ensures sets { self.new
             ≡ correct_sets_if (is_none (due plant.now (sample_of sample.now) self.old.plain)) plant.now (sample_of sample.now) self.old }
-        ensures stands { Judges plant.now (sample_of sample.now) self.old self.new (certificate_in result.outcome) }
+        ensures stands { Judges as_run_chooses plant.now (sample_of sample.now) self.old self.new (certificate_in result.outcome) }
     {
         let Passed { outs, due } = self.pass(plant, sample, room, true);
-        let outcome = outcome_by(certificate(due, self.rows()));
+        let outcome = outcome_by(certificate(due, self.rows(), has_reading(sample)));
         Judgement { outs, outcome }
     }
 
@@ -199,7 +200,7 @@ impl<const N: usize> Est<N> {
         ensures sets { self.new
             ≡ sets_offered plant.now (sample_of sample.now) self.old (option_map certificate_of offered) }
         ensures stands { IfOk result (λ judgement.
-            Justifies plant.now (sample_of sample.now) self.old self.new (certificate_in judgement.outcome)) }
+            Judges any_justified plant.now (sample_of sample.now) self.old self.new (certificate_in judgement.outcome)) }
     {
         let wanted = !offers_output(&offered);
         let Passed { outs, due } = self.pass(plant, sample, room, wanted);
@@ -230,18 +231,40 @@ impl<const N: usize> Est<N> {
     }
 }
 
-/// The certificate of the output that is due, or else of the first candidate that refutes the rows.
-fn certificate(due: Option<u32>, rows: &Rows) -> Option<Cert>
-    ensures { option_map certificate_of result
-        ≡ certificate_by due (if_multipliers (first_candidate_of rows.now.width rows.now.rows)) }
+/// The certificate of the output that is due; or else of the first candidate that refutes the rows; or else, where one of
+/// the rows is new, of what the search proposes, if that refutes them.
+fn certificate(due: Option<u32>, rows: &Rows, is_new: bool) -> Option<Cert>
+    ensures { is_chosen due (passes_of rows.now.width rows.now.rows)
+        (if_multipliers (first_candidate_of rows.now.width rows.now.rows)) (option_map certificate_of result) ≡ true }
 {
-    match due {
-        Some(o) => Some(Cert::Out(o)),
-        None => match first_candidate(rows) {
-            Some(multipliers) => Some(Cert::Rows(multipliers)),
-            None => None,
-        },
+    if let Some(o) = due {
+        return Some(Cert::Out(o));
     }
+    if let Some(multipliers) = first_candidate(rows) {
+        let _ = multipliers.list();
+        return Some(Cert::Rows(multipliers));
+    }
+    proposed(rows, is_new)
+}
+
+/// What the search proposes, where it refutes the rows. It is asked where one of them is new: an image and a reduction
+/// change no right side and make no magnitude less, so that what refuted nothing before refutes nothing after them.
+fn proposed(rows: &Rows, is_new: bool) -> Option<Cert>
+    ensures { is_justified_of None (passes_of rows.now.width rows.now.rows) (option_map certificate_of result) ≡ true }
+{
+    if !is_new || rows.count() == 0 {
+        return None;
+    }
+    let multipliers = propose(rows, &mut Pivots { done: 0 });
+    if passes(rows, multipliers.list()) {
+        return Some(Cert::Rows(multipliers));
+    }
+    None
+}
+
+/// Whether the sample has a reading, and so a row that is new. Only time rests on it.
+fn has_reading(sample: &Sample) -> bool {
+    sample.y.iter().any(|reading| !matches!(reading, Reading::Missing))
 }
 
 /// Takes the images of both sets; whether neither leaves the range. Where one does, the sets are not to be used.

@@ -20,7 +20,7 @@ ghost use Rattle.observer_step.specs.SetsLaws.{
   RefutedHasNone,
   LaterSetsChangeNothing,
 };
-ghost use Rattle.observer_step.specs.SetsAnswers.{CertificateIsChosen};
+ghost use Rattle.observer_step.specs.SetsAnswers.{ChosenIsJustified};
 
 mod ahead;
 mod est;
@@ -54,7 +54,7 @@ pub fn laws()
 {}
 
 /// The laws of an estimate, a plain set and one with rows side by side: every trajectory is in both, for all kept rows by one choice of
-/// symbols; where a reading misses, or multipliers refute the kept rows, there is none.
+/// symbols; where a reading misses, or multipliers refute the kept rows, there is none. What `run` may choose is justified.
 pub fn laws_of_sets()
     ensures predicted { PredictedSetsHold }
     ensures corrected { CorrectedSetsHold }
@@ -62,5 +62,5 @@ pub fn laws_of_sets()
     ensures missed { MissedHasNone }
     ensures refuted { RefutedHasNone }
     ensures later { LaterSetsChangeNothing }
-    ensures chosen { CertificateIsChosen }
+    ensures chosen { ChosenIsJustified }
 {}

@@ -1,5 +1,5 @@
 use Rattle.observer_step.proofs.SetsHold.{predicted-hold, corrected-hold, sets-hull, missed-has_none, refuted-has_none, later-sets}
-use Rattle.observer_step.proofs.Chosen.{certificate-chosen}
+use Rattle.observer_step.proofs.Later.{chosen-is-justified}
 use Rattle.observer_step.proofs.laws_of_sets.Goals as goal
 
 pub returns-clause-predicted : goal.returns-clause-predicted
@@ -21,4 +21,4 @@ pub returns-clause-later : goal.returns-clause-later
 returns-clause-later c = later-sets
 
 pub returns-clause-chosen : goal.returns-clause-chosen
-returns-clause-chosen c = certificate-chosen
+returns-clause-chosen c = chosen-is-justified

@@ -1,27 +1,25 @@
-use Rattle.std.proofs.Common.{IfOk, IfErr, sym, ap, ◌∙◌, subst}
+use Rattle.std.proofs.Common.{IfOk, IfErr, refl, sym, subst}
 use Rattle.plant_model.specs.Seen.{sample_of}
 use Rattle.observer_step.specs.Seen.{certificate_in}
-use Rattle.observer_step.proofs.Later.{given-justified}
-use Rattle.model_bank.specs.Steps.{sets_on}
 use Rattle.model_bank.specs.Claims.{SetsTake, SetsRefuse}
-use Rattle.model_bank.specs.declared.claim.Claim.TheVariants.{Due}
-use Rattle.model_bank.proofs.Judged.{sets-given, offer-taken, offer-refused}
+use Rattle.model_bank.specs.declared.claim.Claim.TheVariants.{Own}
+use Rattle.model_bank.proofs.Judged.{sets-chosen, offer-taken, offer-refused}
 use Rattle.model_bank.proofs.follower.judge_by.Goals as goal
 
-pub returns-in-Due-clause-taken : goal.returns-in-Due-clause-taken
-returns-in-Due-clause-taken g c =
+pub returns-in-Own-clause-taken : goal.returns-in-Own-clause-taken
+returns-in-Own-clause-taken g c =
     let p = c.args.plant.now in
     let s = sample_of c.args.sample.now in
     let e = c.args.estimate.now in
     let after = c.judge.new.self in
     let judged = c.judge.ensures in
-    let takes : SetsTake p s e after Due c.judge.result = record {
+    let takes : SetsTake p s e after Own c.judge.result = record {
       outs_are = judged.outs;
-      certificate_is = judged.outcome;
-      justified = given-justified p s e;
-      sets_are = sets-given p s e after (certificate_in c.judge.result.outcome) judged.outcome judged.sets ∙ ap (sets_on p s e) judged.outcome;
+      is_claimed = refl;
+      allowed = judged.outcome;
+      sets_are = sets-chosen p s e after (certificate_in c.judge.result.outcome) judged.outcome judged.sets;
     } in
-    subst (λ claim. SetsTake p s e after claim c.judge.result) (sym c.in-Due.is) takes
+    subst (λ claim. SetsTake p s e after claim c.judge.result) (sym c.in-Own.is) takes
 
 pub returns-in-Offered-clause-taken : goal.returns-in-Offered-clause-taken
 returns-in-Offered-clause-taken g c =

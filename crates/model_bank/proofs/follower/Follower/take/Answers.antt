@@ -3,8 +3,7 @@ use Rattle.plant_model.specs.Seen.{sample_of}
 use Rattle.observer_step.specs.Seen.{was_widened}
 use Rattle.model_bank.specs.Seen.{model_seen}
 use Rattle.model_bank.specs.Steps.{sets_ahead, widens}
-use Rattle.model_bank.specs.Claims.{claimed_on}
-use Rattle.model_bank.proofs.Judged.{justified-taken, answer-taken, member-taken, certificate-in}
+use Rattle.model_bank.proofs.Judged.{allowed-taken, answer-taken, member-taken, certificate-in, dead-takes}
 use Rattle.model_bank.proofs.follower.Follower.take.Goals as goal
 
 pub returns-in-Ok-clause-taken : goal.returns-in-Ok-clause-taken
@@ -23,8 +22,16 @@ returns-in-Ok-clause-taken g c =
     let taken = c.in-Ok.ensures.taken in
     let model = model_seen c.in-Ok.model in
     record {
-      justified = justified-taken c.args.is_first u s m live p same z ahead c.args.claim taken.justified;
-      told_is = answer-taken c.args.is_first u s m live p same z ahead c.args.claim c.args.index w model widened taken.seen_is;
-      new_is = member-taken c.args.is_first u s m live p same z ahead c.args.claim c.judge.new.estimate c.fits-self-inside.result taken.sets_are
-          (c.fits-self-inside.ensures ∙ certificate-in p s z c.args.index w (claimed_on p s z c.args.claim) model taken.seen_is);
+      certificate = taken.certificate;
+      is_claimed = taken.is_claimed;
+      allowed = allowed-taken c.args.is_first u s m live p same z ahead c.args.claim taken.certificate taken.allowed;
+      told_is = answer-taken c.args.is_first u s m live p same z ahead c.args.claim taken.certificate c.args.index w model widened taken.seen_is;
+      new_is = member-taken c.args.is_first u s m live p same z ahead c.args.claim taken.certificate c.judge.new.estimate c.fits-self-inside.result taken.sets_are
+          (c.fits-self-inside.ensures ∙ certificate-in p s z c.args.index w taken.certificate model taken.seen_is);
     }
+
+pub returns-then-not-self-clause-taken : goal.returns-then-not-self-clause-taken
+returns-then-not-self-clause-taken g c =
+    let seen = c.self.view_is in
+    let dead = sym (ap (λ m. m.live) seen) ∙ c.if-not-self.true in
+    dead-takes c.args.is_first c.args.last.now.items (sample_of c.args.sample.now) c.args.self.now dead c.args.index c.args.claim _ seen

@@ -1,24 +1,32 @@
-use Rattle.std.proofs.Common.{◌≡◌, ◌&&◌, true, is_none, ap, ◌∙◌}
-use Rattle.set_rules.specs.Farkas.{first_candidate}
+use Rattle.std.proofs.Common.{◌≡◌, ◌&&◌, true, is_none, ap, sym, ◌∙◌}
+use Rattle.set_rules.specs.Farkas.{passes, first_candidate}
 use Rattle.plant_model.specs.Seen.{sample_of}
-use Rattle.observer_step.specs.Answers.{certificate_by}
+use Rattle.observer_step.specs.Answers.{as_run_chooses, is_chosen}
 use Rattle.observer_step.specs.Seen.{certificate_in}
 use Rattle.observer_step.specs.Sets.{correct_sets_if}
-use Rattle.observer_step.specs.SetsAnswers.{certificate_of_sets, if_multipliers}
-use Rattle.observer_step.proofs.Judged.{given, judges}
+use Rattle.observer_step.specs.SetsAnswers.{if_multipliers, is_allowed_of_sets}
+use Rattle.observer_step.proofs.Judged.{chosen-then, chosen-judges}
+use Rattle.observer_step.proofs.est.Est.judge.Given.{Over}
 use Rattle.observer_step.proofs.est.Est.judge.Goals as goal
+use Rattle.observer_step.proofs.est.Est.judge.Goals.{After-outcome_by-outcome}
+
+-- the certificate may be chosen by the rows that are kept
+chosen-here : (g : Over) (c : After-outcome_by-outcome g)
+    → is_allowed_of_sets as_run_chooses c.args.plant.now (sample_of c.args.sample.now) c.args.self.now (certificate_in c.outcome_by-outcome.result) ≡ true
+chosen-here g c =
+    let found = certificate_in c.outcome_by-outcome.result in
+    let d = c.pass-outs.result.due in
+    chosen-then c.args.plant.now (sample_of c.args.sample.now) c.args.self.now c.pass-outs.new.self found d c.pass-outs.ensures.due c.pass-outs.ensures.sets
+    ((λ i. is_chosen d (passes (sym c.rows.ensures.width i) (sym c.rows.ensures.rows i))
+    (if_multipliers (first_candidate (sym c.rows.ensures.width i) (sym c.rows.ensures.rows i))) (c.outcome_by-outcome.ensures i)) ∙ c.certificate.ensures)
+
+pub returns-clause-outcome : goal.returns-clause-outcome
+returns-clause-outcome g c = chosen-here g (goal.at.returns-clause-outcome g c).After-outcome_by-outcome
 
 pub returns-clause-stands : goal.returns-clause-stands
 returns-clause-stands g c =
     let p = c.args.plant.now in
     let s = sample_of c.args.sample.now in
     let old = c.args.self.now in
-    let new = c.pass-outs.new.self in
-    let due_is = c.pass-outs.ensures.due in
-    let kept : certificate_in c.outcome_by-outcome.result ≡ certificate_by c.pass-outs.result.due (if_multipliers (first_candidate c.rows.result.now.width c.rows.result.now.rows)) =
-    c.outcome_by-outcome.ensures ∙ c.certificate.ensures in
-    let is : certificate_in c.outcome_by-outcome.result ≡ certificate_of_sets p s old =
-    kept ∙ (λ i. certificate_by c.pass-outs.result.due (if_multipliers (first_candidate (c.rows.ensures.width i) (c.rows.ensures.rows i))))
-    ∙ given p s old new c.pass-outs.result.due due_is c.pass-outs.ensures.sets in
-    judges p s old new (certificate_in c.outcome_by-outcome.result) is
-    (c.pass-outs.ensures.sets ∙ ap (λ d. correct_sets_if (true && is_none d) p s old) due_is)
+    chosen-judges p s old c.pass-outs.new.self (certificate_in c.outcome_by-outcome.result) (chosen-here g (goal.at.returns-clause-stands g c).After-outcome_by-outcome)
+    (c.pass-outs.ensures.sets ∙ ap (λ d. correct_sets_if (true && is_none d) p s old) c.pass-outs.ensures.due)

@@ -1,0 +1,1 @@
+use Rattle.observer_step.proofs.est.certificate.Goals as goal
