@@ -21,14 +21,14 @@ list-same : (xs ys : List ℤ) → pointwise int_eq xs ys ≡ true → xs ≡ ys
 list-same [] [] is = refl
 list-same [] (y ∷ ys) is = absurd cc
 list-same (x ∷ xs) [] is = absurd cc
-list-same (x ∷ xs) (y ∷ ys) is = by (int_eq x y) refl is
+list-same (x ∷ xs) (y ∷ ys) is = by (int_eq x y) refl (list-same xs ys) is
   where
     equal : int_eq x y ≡ true → x ≡ y
     equal e = grind (arith, ints, nat_tests)
 
-    by : (b : Bool) → int_eq x y ≡ b → b && pointwise int_eq xs ys ≡ true → x ∷ xs ≡ y ∷ ys
-    by true e rest = λ i. equal e i ∷ list-same xs ys rest i
-    by false e rest = absurd cc
+    by : (b : Bool) → int_eq x y ≡ b → (pointwise int_eq xs ys ≡ true → xs ≡ ys) → b && pointwise int_eq xs ys ≡ true → x ∷ xs ≡ y ∷ ys
+    by true e others rest = λ i. equal e i ∷ others rest i
+    by false e others rest = absurd cc
 
 same-output : (o : ℕ) → (o == o) ≡ true
 same-output o = grind (arith, nat_tests)
