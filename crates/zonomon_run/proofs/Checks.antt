@@ -29,9 +29,9 @@ use Rattle.zonomon_run.specs.Words.{asked_by, checks}
 use Rattle.zonomon_run.specs.Ending.{status_of, text_of, accepted_text, Tells}
 use Rattle.zonomon_run.specs.declared.ending.Ending.TheVariants.{ReadModel, ReadTelemetry, ReadReport}
 use Rattle.zonomon_run.specs.Endings.{check_ending, unread_ending}
-use Rattle.zonomon_run.specs.Runs.{Outside, OnCheck, IsAccepted, PutsText, report_text}
+use Rattle.zonomon_run.specs.Runs.{Outside, OnCheck, IsAccepted, PutsText}
 use Rattle.zonomon_run.specs.Checks.{Agrees, DepartsAtLine, Accepts, IsRefusedAt, IsCheckStatus, NoSlotRose, Unread, Checks, AreLinesWith, KeepsOwn, CheckedHulls, CheckedExclusions, CheckedMisses}
-use Rattle.monitor_run.specs.Reports.{report_of_rows, watch_of}
+use Rattle.monitor_run.specs.Reports.{watch_of, IsReportOf, IsReportOfRows}
 use Rattle.zonomon_run.proofs.Runs.{refused-model, accepted-not-refused, not-refused, if-some, put-accepted}
 
 -- a claim on what the words name
@@ -344,14 +344,14 @@ departs-not-agrees line (bad_model x) b h agrees = h
 departs-not-agrees line (bad_header x) b h agrees = h
 departs-not-agrees line (monitored ms rows) b h agrees = h.not_satisfied agrees
 
-own-satisfies : (ms : Models) (rows : Rows) (whole : Bool) → SatisfiesBy whole (watch_of ms rows) (lines_text (report_of_rows ms rows))
-own-satisfies ms rows true = (report_of_rows ms rows, put-accepted ms rows, refl)
-own-satisfies ms rows false = (report_of_rows ms rows, put-accepted ms rows, [], sym (append-nil (lines_text (report_of_rows ms rows))))
+own-satisfies : (ms : Models) (rows : Rows) (lines : List Line) → IsReportOfRows ms rows lines → (whole : Bool) → SatisfiesBy whole (watch_of ms rows) (lines_text lines)
+own-satisfies ms rows lines is true = (lines, put-accepted ms rows lines is, refl)
+own-satisfies ms rows lines is false = (lines, put-accepted ms rows lines is, [], sym (append-nil (lines_text lines)))
 
-own-agrees : (f : Files) (b : List ℕ) → b ≡ report_text f → Agrees f b
-own-agrees (bad_model x) b e = tt
-own-agrees (bad_header x) b e = tt
-own-agrees (monitored ms rows) b e = subst (λ b. Satisfies (watch_of ms rows) b) (sym e) (own-satisfies ms rows (watch_of ms rows).is_whole)
+own-agrees : (f : Files) (b : List ℕ) (lines : List Line) → IsReportOf f lines → b ≡ lines_text lines → Agrees f b
+own-agrees (bad_model x) b lines is e = tt
+own-agrees (bad_header x) b lines is e = tt
+own-agrees (monitored ms rows) b lines is e = subst (λ b. Satisfies (watch_of ms rows) b) (sym e) (own-satisfies ms rows lines is (watch_of ms rows).is_whole)
 
 own : (model telemetry report : Option (List ℕ)) (answer : ℕ)
     → (answer ≡ 7 → (line : ℕ) × IfSome report (λ b. OnBytes model telemetry (λ m t. DepartsAtLine line (files_of m t) b)))
@@ -359,11 +359,11 @@ own : (model telemetry report : Option (List ℕ)) (answer : ℕ)
 own model telemetry None answer h = tt
 own None telemetry (Some b) answer h = tt
 own (Some m) None (Some b) answer h = tt
-own (Some m) (Some t) (Some b) answer h = λ is seven.
+own (Some m) (Some t) (Some b) answer h = λ lines may is seven.
     let x = h seven in
-    departs-not-agrees x.0 (files_of m t) b x.1 (own-agrees (files_of m t) b is)
+    departs-not-agrees x.0 (files_of m t) b x.1 (own-agrees (files_of m t) b lines may is)
 
--- a check does not refuse what a run puts
+-- a check does not refuse what a run may put
 pub own-kept : (model telemetry report : List ℕ) (before : Outside) (answer : ℕ) (after : Outside) → Checks model telemetry report before answer after
     → OnReport before.shelf model telemetry report (KeepsOwn answer)
 own-kept model telemetry report before answer after h = own (before.shelf.file model) (before.shelf.file telemetry) (before.shelf.file report) answer

@@ -1,5 +1,5 @@
 -- What a run answers, from how it ended.
-use Rattle.std.proofs.Common.{◌≡◌, ◌≢◌, ◌⊎◌, ◌+◌, ◌==◌, if◌then◌else◌, inl, inr, List, ℕ, Bool, true, false, Option, Some, None, IfSome, IsSome, Result, Ok, Err, refl, sym, ap, subst, length, arith}
+use Rattle.std.proofs.Common.{◌≡◌, ◌≢◌, ◌⊎◌, ◌+◌, ◌==◌, if◌then◌else◌, inl, inr, ◌×◌, List, [], ℕ, Bool, true, false, Option, Some, None, IfSome, IsSome, Result, Ok, Err, refl, sym, ap, subst, length, arith}
 use Rattle.std.specs.Prelude.{is_some}
 use Rattle.outside_io.specs.Causes.{Rose}
 use Rattle.outside_io.specs.Shelf.{ShelfState}
@@ -15,7 +15,7 @@ use Rattle.report_text.specs.Line.{Line, lines_text}
 use Rattle.report_rules.proofs.Hulls.{hulls-sound, exclusions-sound, estimate-sound}
 use Rattle.report_rules.proofs.Misses.{misses-told}
 use Rattle.report_rules.proofs.Chosen.{run-accepted, due-chosen, estimate-refutes}
-use Rattle.report_rules.specs.Report.{IsReport}
+use Rattle.report_rules.specs.Report.{IsReport, report, due_choice}
 use Rattle.monitor_run.specs.declared.done.Done.{Done}
 use Rattle.monitor_run.specs.declared.done.RunFault.{RunFault}
 use Rattle.monitor_run.specs.declared.done.RunFault.TheVariants as run
@@ -23,15 +23,15 @@ use Rattle.input_files.specs.Files.{Files, bad_model, bad_header, monitored, fil
 use Rattle.input_files.specs.Told.{OnBytes, OnFile, OnFiles, OnLeft, AreRead}
 use Rattle.input_files.specs.Whole.{TakesAtMost, most_model, most_piece}
 use Rattle.telem_csv.specs.Rows.{Rows}
-use Rattle.monitor_run.specs.InTime.{PutsInTime, lines_begun}
-use Rattle.monitor_run.specs.Reports.{report_of, report_of_rows, watch_of}
-use Rattle.monitor_run.specs.Outcome.{SaysOfModel, SaysOfFiles, PutsReport, PutsNothing, AsksModelFirst, AsksInOrder, ReadsFailed}
+use Rattle.monitor_run.specs.InTime.{PutsInTime, IsBegun}
+use Rattle.monitor_run.specs.Reports.{IsReportOf, IsReportOfRows, watch_of}
+use Rattle.monitor_run.specs.Outcome.{SaysOfModel, SaysOfFiles, PutsReport, GainsLinesFront, PutsNothing, AsksModelFirst, AsksInOrder, ReadsFailed}
 use Rattle.monitor_run.proofs.Begun.{not-asked}
 use Rattle.zonomon_run.specs.Words.{asked_by, monitor}
 use Rattle.zonomon_run.specs.Ending.{status_of, text_of, Tells}
 use Rattle.zonomon_run.specs.declared.ending.Ending.TheVariants.{ReadModel, ReadTelemetry}
 use Rattle.zonomon_run.specs.Endings.{ending_of}
-use Rattle.zonomon_run.specs.Runs.{Outside, OnRun, OnNamed, IsAccepted, IsRunStatus, NoneRose, ModelUnread, TelemetryUnread, Monitors, GainsAllRead, report_text, TrueHulls, TrueExclusions, TrueMisses}
+use Rattle.zonomon_run.specs.Runs.{Outside, OnRun, OnNamed, IsAccepted, IsRunStatus, NoneRose, ModelUnread, TelemetryUnread, Monitors, GainsAllRead, GainsReport, GainsReportFront, TrueHulls, TrueExclusions, TrueMisses}
 
 pub on-bytes : (model telemetry : Option (List ℕ)) (P : List ℕ → List ℕ → Type 0) → ((m t : List ℕ) → P m t) → OnBytes model telemetry P
 on-bytes None telemetry P f = tt
@@ -80,19 +80,27 @@ accepted-not-refused (monitored ms rows) fault e h = cc
 
 -- ---- how a run ended
 
-puts-front : (r : Result Done RunFault) (before after : SinkState) (lines : List Line) → PutsReport lines before r after → GainsFront (lines_text lines) before after
-puts-front (Ok done) before after lines h = all-front before.held after.held (lines_text lines) h
-puts-front (Err (run.Model fault)) before after lines h = subst (λ x. AppendsFront before.held x (lines_text lines)) (sym h) (no-front before.held (lines_text lines))
-puts-front (Err (run.Telemetry fault)) before after lines h = all-front before.held after.held (lines_text lines) h
-puts-front (Err (run.Read slot)) before after lines h = h
-puts-front (Err run.Write) before after lines h = h
-puts-front (Err run.Memory) before after lines h = h
+-- there is a report of each file, that with the certificates that are due
+some-report : (f : Files) → (lines : List Line) × IsReportOf f lines
+some-report (bad_model fault) = ([], refl)
+some-report (bad_header fault) = ([], refl)
+some-report (monitored ms rows) =
+    let w = watch_of ms rows in
+    (report sets_observer w (due_choice sets_observer w.plants w.samples), due-chosen w)
 
-pub all-front-of : (model telemetry : Option (List ℕ)) (before after : SinkState) (r : Result Done RunFault) → OnBytes model telemetry (λ m t. PutsReport (report_of (files_of m t)) before r after)
-    → OnBytes model telemetry (λ m t. GainsFront (report_text (files_of m t)) before after)
+puts-front : (r : Result Done RunFault) (before after : SinkState) (are : List Line → Type 0) → (lines : List Line) × are lines → PutsReport are before r after → GainsLinesFront are before after
+puts-front (Ok done) before after are some (lines, is, h) = (lines, is, all-front before.held after.held (lines_text lines) h)
+puts-front (Err (run.Model fault)) before after are (lines, is) h = (lines, is, subst (λ x. AppendsFront before.held x (lines_text lines)) (sym h) (no-front before.held (lines_text lines)))
+puts-front (Err (run.Telemetry fault)) before after are some (lines, is, h) = (lines, is, all-front before.held after.held (lines_text lines) h)
+puts-front (Err (run.Read slot)) before after are some h = h
+puts-front (Err run.Write) before after are some h = h
+puts-front (Err run.Memory) before after are some h = h
+
+pub all-front-of : (model telemetry : Option (List ℕ)) (before after : SinkState) (r : Result Done RunFault) → OnBytes model telemetry (λ m t. PutsReport (IsReportOf (files_of m t)) before r after)
+    → OnBytes model telemetry (λ m t. GainsReportFront before after (files_of m t))
 all-front-of None telemetry before after r h = tt
 all-front-of (Some m) None before after r h = tt
-all-front-of (Some m) (Some t) before after r h = puts-front r before after (report_of (files_of m t)) h
+all-front-of (Some m) (Some t) before after r h = puts-front r before after (IsReportOf (files_of m t)) (some-report (files_of m t)) h
 
 -- the slot that could not be read
 pub unread : (slot : ℕ) (model telemetry : List ℕ) (before after : Outside) → ReadsFailed model telemetry before.shelf after.shelf slot → Tells (text_of (ending_of (run.Read slot))) before.err after.err
@@ -213,10 +221,10 @@ if-some (Some m) P Q f h = f m h
 module _ (model telemetry : List ℕ) (before after : Outside) where
   -- a run that ended early
   module _ (fault : RunFault) (says_model : OnFile before.shelf model (SaysOfModel (Err fault))) (says_files : OnFiles before.shelf model telemetry (SaysOfFiles (Err fault)))
-      (puts : OnFiles before.shelf model telemetry (λ f. PutsReport (report_of f) before.out (Err fault) after.out)) (nothing : PutsNothing before.out (Err fault) after.out)
+      (puts : OnFiles before.shelf model telemetry (λ f. PutsReport (IsReportOf f) before.out (Err fault) after.out)) (nothing : PutsNothing before.out (Err fault) after.out)
       (reads : (slot : ℕ) → fault ≡ run.Read slot → ReadsFailed model telemetry before.shelf after.shelf slot) (writes : fault ≡ run.Write → Rose before.out.faults after.out.faults)
       (asks : AsksInOrder model telemetry (Err fault) after.shelf) (told : Tells (text_of (ending_of fault)) before.err after.err)
-      (in_time : OnLeft before.shelf after.shelf model telemetry (λ m t left. PutsInTime (lines_begun m t) left before.out (Err fault) after.out))
+      (in_time : OnLeft before.shelf after.shelf model telemetry (λ m t left. PutsInTime (IsBegun m t) left before.out (Err fault) after.out))
       (taken : TakesAtMost (most_model + most_piece) (before.shelf.file model) (after.shelf.slot 0)) (was_asked : (after.shelf.slot 1).attached ≡ true → is_some (after.shelf.slot 1).asked ≡ true) where
     refuses-model : OnFile before.shelf model (λ m. IsSome (model_refusal m) → ¬ Rose (before.shelf.slot 0).faults (after.shelf.slot 0).faults → (status fault ≡ 2) ⊎ (status fault ≡ 6))
     refuses-model = if-some (before.shelf.file model) _ _ (by fault refl) says_model
@@ -256,26 +264,26 @@ module _ (model telemetry : List ℕ) (before after : Outside) where
       report = reported;
       front = all-front-of (before.shelf.file model) (before.shelf.file telemetry) before.out after.out (Err fault) puts;
       in_time_read = λ e attached. let x = of-four fault e in all-read x.0 x.1 (was_asked attached) (in_time attached);
-      in_time_write = λ e. subst (λ g. OnLeft before.shelf after.shelf model telemetry (λ m t left. PutsInTime (lines_begun m t) left before.out (Err g) after.out)) (of-five fault e) in_time;
+      in_time_write = λ e. subst (λ g. OnLeft before.shelf after.shelf model telemetry (λ m t left. PutsInTime (IsBegun m t) left before.out (Err g) after.out)) (of-five fault e) in_time;
       model_taken = taken;
       nothing = λ e. let x = of-two fault e in subst (λ g. PutsNothing before.out (Err g) after.out) x.1 nothing;
     }
       where
         all-read : (slot : ℕ) → fault ≡ run.Read slot → is_some (after.shelf.slot 1).asked ≡ true
-            → OnBytes (before.shelf.file model) (before.shelf.file telemetry) (λ m t. IfSome (after.shelf.slot 1).rest (λ r. PutsInTime (lines_begun m t) (length r) before.out (Err fault) after.out))
+            → OnBytes (before.shelf.file model) (before.shelf.file telemetry) (λ m t. IfSome (after.shelf.slot 1).rest (λ r. PutsInTime (IsBegun m t) (length r) before.out (Err fault) after.out))
             → OnBytes (before.shelf.file model) (before.shelf.file telemetry) (λ m t. IfSome (after.shelf.slot 1).rest (λ r. GainsAllRead before.out after.out m t (length r)))
         all-read slot is some = if-left (before.shelf.file model) (before.shelf.file telemetry) (after.shelf.slot 1).rest
-            (λ m t left. PutsInTime (lines_begun m t) left before.out (Err fault) after.out) (GainsAllRead before.out after.out)
-            (λ m t left h. subst (λ g. PutsInTime (lines_begun m t) left before.out (Err g) after.out) is h
+            (λ m t left. PutsInTime (IsBegun m t) left before.out (Err fault) after.out) (GainsAllRead before.out after.out)
+            (λ m t left h. subst (λ g. PutsInTime (IsBegun m t) left before.out (Err g) after.out) is h
             (is-telemetry slot model telemetry before.shelf after.shelf (reads slot is) (subst (λ g. AsksModelFirst (Err g) (after.shelf.slot 1).asked) is asks.first) some))
 
-        reported : (status fault ≡ 0) ⊎ (status fault ≡ 3) → OnFiles before.shelf model telemetry (λ f. Gains (report_text f) before.out after.out)
+        reported : (status fault ≡ 0) ⊎ (status fault ≡ 3) → OnFiles before.shelf model telemetry (GainsReport before.out after.out)
         reported (inl e) = absurd (not-zero fault e)
-        reported (inr e) = let x = of-three fault e in subst (λ g. OnFiles before.shelf model telemetry (λ f. PutsReport (report_of f) before.out (Err g) after.out)) x.1 puts
+        reported (inr e) = let x = of-three fault e in subst (λ g. OnFiles before.shelf model telemetry (λ f. PutsReport (IsReportOf f) before.out (Err g) after.out)) x.1 puts
 
   -- a run that came to the end of its telemetry
   module _ (done : Done) (says_model : OnFile before.shelf model (λ m. model_refusal m ≡ None)) (says_files : OnFiles before.shelf model telemetry (λ f. RunsThrough f done.samples))
-      (puts : OnFiles before.shelf model telemetry (λ f. Gains (report_text f) before.out after.out)) (read : AreRead after.shelf) (asks : AsksInOrder model telemetry (Ok done) after.shelf)
+      (puts : OnFiles before.shelf model telemetry (GainsReport before.out after.out)) (read : AreRead after.shelf) (asks : AsksInOrder model telemetry (Ok done) after.shelf)
       (taken : TakesAtMost (most_model + most_piece) (before.shelf.file model) (after.shelf.slot 0)) where
     through-accepted : (f : Files) → RunsThrough f done.samples → IsAccepted f
     through-accepted (bad_model x) h = h
@@ -320,21 +328,23 @@ module _ (model telemetry : List ℕ) (before after : Outside) where
 
 -- ---- what the lines claim
 
--- what a run puts is accepted
-pub put-accepted : (ms : Models) (rows : Rows) → IsReport any_justified sets_observer (watch_of ms rows) (report_of_rows ms rows)
-put-accepted ms rows = run-accepted sets_observer (watch_of ms rows) (report_of_rows ms rows) estimate-refutes (due-chosen (watch_of ms rows))
+-- what a run may put is accepted
+pub put-accepted : (ms : Models) (rows : Rows) (lines : List Line) → IsReportOfRows ms rows lines → IsReport any_justified sets_observer (watch_of ms rows) lines
+put-accepted ms rows lines is = run-accepted sets_observer (watch_of ms rows) lines estimate-refutes is
 
 pub true-hulls : (f : Files) → TrueHulls f
 true-hulls (bad_model fault) = tt
 true-hulls (bad_header fault) = tt
-true-hulls (monitored ms rows) = hulls-sound sets_observer (watch_of ms rows) (report_of_rows ms rows) (estimate-sound rows.samples (length rows.samples)) (put-accepted ms rows)
+true-hulls (monitored ms rows) = λ lines is.
+    hulls-sound sets_observer (watch_of ms rows) lines (estimate-sound rows.samples (length rows.samples)) (put-accepted ms rows lines is)
 
 pub true-exclusions : (f : Files) → TrueExclusions f
 true-exclusions (bad_model fault) = tt
 true-exclusions (bad_header fault) = tt
-true-exclusions (monitored ms rows) = exclusions-sound sets_observer (watch_of ms rows) (report_of_rows ms rows) (estimate-sound rows.samples (length rows.samples)) (put-accepted ms rows)
+true-exclusions (monitored ms rows) = λ lines is.
+    exclusions-sound sets_observer (watch_of ms rows) lines (estimate-sound rows.samples (length rows.samples)) (put-accepted ms rows lines is)
 
 pub true-misses : (f : Files) → TrueMisses f
 true-misses (bad_model fault) = tt
 true-misses (bad_header fault) = tt
-true-misses (monitored ms rows) = misses-told sets_observer (watch_of ms rows) (report_of_rows ms rows) (put-accepted ms rows)
+true-misses (monitored ms rows) = λ lines is. misses-told sets_observer (watch_of ms rows) lines (put-accepted ms rows lines is)

@@ -13,7 +13,7 @@ use Rattle.report_text.specs.Line.{Line, lines_text}
 use Rattle.report_rules.specs.Report.{IsReport}
 use Rattle.report_rules.specs.Replay.{Satisfies, DepartsAt}
 use Rattle.report_rules.specs.Claims.{HullsHold, ExclusionsHold, MissesTold, plant_at}
-use Rattle.monitor_run.specs.Reports.{watch_of}
+use Rattle.monitor_run.specs.Reports.{watch_of, IsReportOf}
 use Rattle.input_files.specs.Ended.{files_begun, without_last}
 use Rattle.input_files.specs.Files.{Files, bad_model, bad_header, monitored, model_refusal, telemetry_refusal}
 use Rattle.input_files.specs.Told.{OnFile, ReadFailed}
@@ -22,7 +22,7 @@ use Rattle.cert_replay.specs.Ahead.{OnReportLeft, IsBehindBegun}
 use Rattle.cert_replay.specs.Outcome.{OnReport, AllRead}
 use Rattle.zonomon_run.specs.Ending.{Tells, text_of, accepted_text, telemetry_refusal_text, report_refusal_text}
 use Rattle.zonomon_run.specs.declared.ending.Ending.TheVariants.{ReadReport}
-use Rattle.zonomon_run.specs.Runs.{Outside, OnCheck, IsAccepted, report_text, ModelUnread, TelemetryUnread, ModelRefused}
+use Rattle.zonomon_run.specs.Runs.{Outside, OnCheck, IsAccepted, ModelUnread, TelemetryUnread, ModelRefused}
 
 -- ---- what is said of a report
 
@@ -122,9 +122,9 @@ pub record Checks (model telemetry report : List ℕ) (before : Outside) (result
   pub front : GainsFront accepted_text before.out after.out
   pub nothing : result ≢ 0 → result ≢ 5 → result ≢ 6 → after.out.held ≡ before.out.held
 
--- the report that a run puts for these files is not refused
+-- no report that a run may put for these files is refused
 abbrev pub KeepsOwn : ℕ → Files → List ℕ → Type 0
-KeepsOwn result files bytes = bytes ≡ report_text files → result ≢ 7
+KeepsOwn result files bytes = (lines : List Line) → IsReportOf files lines → bytes ≡ lines_text lines → result ≢ 7
 
 -- ---- what the lines of an accepted report claim
 

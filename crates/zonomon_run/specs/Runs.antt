@@ -6,13 +6,14 @@ use Rattle.outside_io.specs.Sink.{SinkState, Gains, GainsFront}
 use Rattle.model_file.specs.declared.fault.ModelFault.{ModelFault}
 use Rattle.telem_csv.specs.declared.fault.TelemFault.{TelemFault}
 use Rattle.model_bank.specs.Bank.{plants_in}
-use Rattle.report_text.specs.Line.{lines_text}
+use Rattle.report_text.specs.Line.{Line}
 use Rattle.report_rules.specs.Claims.{HullsHold, ExclusionsHold, MissesTold, plant_at}
 use Rattle.input_files.specs.Files.{Files, bad_model, bad_header, monitored, model_refusal, telemetry_refusal}
 use Rattle.input_files.specs.Told.{OnFile, OnFiles, OnLeft, AreRead, ReadFailed}
 use Rattle.input_files.specs.Whole.{IsAskedAtMost, TakesAtMost, most_model, most_piece}
-use Rattle.monitor_run.specs.InTime.{lines_begun, GainsAtLeast}
-use Rattle.monitor_run.specs.Reports.{report_of, report_of_rows}
+use Rattle.monitor_run.specs.InTime.{IsBegun, GainsLinesAtLeast}
+use Rattle.monitor_run.specs.Outcome.{GainsLines, GainsLinesFront}
+use Rattle.monitor_run.specs.Reports.{IsReportOf, IsReportOfRows}
 use Rattle.zonomon_run.specs.Words.{asked_by, monitor, checks, helps, later, faulty}
 use Rattle.zonomon_run.specs.Ending.{Tells, text_of, usage_lines, model_refusal_text, telemetry_refusal_text}
 use Rattle.zonomon_run.specs.declared.ending.Ending.TheVariants.{ReadModel, ReadTelemetry}
@@ -47,29 +48,21 @@ NamesNoFile words = (asked_by words ≡ helps) ⊎ ((asked_by words ≡ faulty) 
 abbrev pub OnNamed : List (List ℕ) → ShelfState → (Files → Type 0) → Type 0
 OnNamed words shelf claim = OnRun words (λ model telemetry. OnFiles shelf model telemetry claim)
 
--- the bytes of the report of files that say this
-abbrev pub report_text : Files → List ℕ
-report_text files = lines_text (report_of files)
-
--- the output gained the report of files that say this
+-- the output gained a report of files that say this
 abbrev pub GainsReport : SinkState → SinkState → Files → Type 0
-GainsReport before after files = Gains (report_text files) before after
+GainsReport before after files = GainsLines (IsReportOf files) before after
 
--- the output gained a front of the report of files that say this
+-- the output gained a front of a report of files that say this
 abbrev pub GainsReportFront : SinkState → SinkState → Files → Type 0
-GainsReportFront before after files = GainsFront (report_text files) before after
+GainsReportFront before after files = GainsLinesFront (IsReportOf files) before after
 
--- the lines that are due for the header and the rows that have ended in a telemetry without its last k bytes
-abbrev pub begun_text : (model telemetry : List ℕ) → ℕ → List ℕ
-begun_text m t k = lines_text (lines_begun m t k)
-
--- the output gained exactly the lines of all that was read of the telemetry, where so many bytes of it are left
+-- the output gained exactly lines of all that was read of the telemetry, where so many bytes of it are left
 abbrev pub GainsAllRead : SinkState → SinkState → (model telemetry : List ℕ) → ℕ → Type 0
-GainsAllRead before after m t left = Gains (begun_text m t left) before after
+GainsAllRead before after m t left = GainsLines (IsBegun m t left) before after
 
--- the output gained at least the lines of what was read before the last piece and the byte in front of it
+-- the output gained at least lines of what was read before the last piece and the byte in front of it
 abbrev pub GainsMostRead : SinkState → SinkState → (model telemetry : List ℕ) → ℕ → Type 0
-GainsMostRead before after m t left = GainsAtLeast (begun_text m t (left + most_piece + 1)) before after
+GainsMostRead before after m t left = GainsLinesAtLeast (IsBegun m t (left + most_piece + 1)) before after
 
 -- no file is refused
 abbrev pub IsAccepted : Files → Type 0
@@ -156,22 +149,22 @@ pub record PutsText (text : List ℕ) (before : SinkState) (result : ℕ) (after
 abbrev pub Helps : SinkState → ℕ → SinkState → Type 0
 Helps before result after = PutsText usage_lines before result after
 
--- ---- what the printed lines claim
+-- ---- what the lines claim that a run may put
 
 -- each hull holds every trajectory of its model
 abbrev pub TrueHulls : Files → Type 0
 TrueHulls (bad_model fault) = Unit
 TrueHulls (bad_header fault) = Unit
-TrueHulls (monitored ms rows) = HullsHold (plant_at (plants_in ms)) rows.samples 0 (report_of_rows ms rows)
+TrueHulls (monitored ms rows) = (lines : List Line) → IsReportOfRows ms rows lines → HullsHold (plant_at (plants_in ms)) rows.samples 0 lines
 
 -- each model that is excluded has no trajectory
 abbrev pub TrueExclusions : Files → Type 0
 TrueExclusions (bad_model fault) = Unit
 TrueExclusions (bad_header fault) = Unit
-TrueExclusions (monitored ms rows) = ExclusionsHold (plant_at (plants_in ms)) rows.samples 0 (report_of_rows ms rows)
+TrueExclusions (monitored ms rows) = (lines : List Line) → IsReportOfRows ms rows lines → ExclusionsHold (plant_at (plants_in ms)) rows.samples 0 lines
 
 -- a reading that misses its printed interval excludes the model at the least such output
 abbrev pub TrueMisses : Files → Type 0
 TrueMisses (bad_model fault) = Unit
 TrueMisses (bad_header fault) = Unit
-TrueMisses (monitored ms rows) = MissesTold rows.samples 0 None (report_of_rows ms rows)
+TrueMisses (monitored ms rows) = (lines : List Line) → IsReportOfRows ms rows lines → MissesTold rows.samples 0 None lines

@@ -40,8 +40,8 @@ pub fn run<F: Shelf, O: Sink, E: Sink>(
         (outside (F.state shelf.new) (O.state out.new) (E.state err.new))) }
     ensures write { result ≡ 5 → Rose (O.state out.old).faults (O.state out.new).faults }
 
-    // What a run has put to `out`: the report at status 0; at 3 the report up to the refused row; at 4, 5 and 6 a front of it. Nothing
-    // was put at the other statuses, whatever the words are.
+    // What a run has put to `out`: a report at status 0; at 3 a report up to the refused row; at 4, 5 and 6 a front of one. Which
+    // certificates it may choose is said; nothing was put at the other statuses, whatever the words are.
     ensures accepted { result ≡ 0 → OnNamed (texts words.now) (F.state shelf.old) IsAccepted }
     ensures report { (result ≡ 0) ⊎ (result ≡ 3)
         → OnNamed (texts words.now) (F.state shelf.old) (GainsReport (O.state out.old) (O.state out.new)) }
@@ -49,12 +49,12 @@ pub fn run<F: Shelf, O: Sink, E: Sink>(
     ensures nothing { (result ≡ 1) ⊎ ((result ≡ 2) ⊎ ((result ≡ 7) ⊎ (result ≡ 8)))
         → (O.state out.new).held ≡ (O.state out.old).held }
 
-    // What the lines of a run's report claim of the trajectories of the models.
+    // What the lines of a report that a run may put claim of the trajectories of the models: the headline.
     ensures hull { OnNamed (texts words.now) (F.state shelf.old) TrueHulls }
     ensures exclusion { OnNamed (texts words.now) (F.state shelf.old) TrueExclusions }
     ensures miss { OnNamed (texts words.now) (F.state shelf.old) TrueMisses }
 
-    // The report of a run is not refused by a check of it, and what the lines of an accepted report claim.
+    // No report that a run may put is refused by a check of it, and what the lines of an accepted report claim.
     ensures own_report { OnChecked (texts words.now) (F.state shelf.old) (KeepsOwn result) }
     ensures checked_hull { result ≡ 0 → OnChecked (texts words.now) (F.state shelf.old) CheckedHulls }
     ensures checked_exclusion { result ≡ 0 → OnChecked (texts words.now) (F.state shelf.old) CheckedExclusions }
