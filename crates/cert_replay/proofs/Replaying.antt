@@ -5,10 +5,11 @@ use Rattle.std.proofs.lemmas.List.{length-map}
 use Rattle.outside_io.specs.Shelf.{ShelfState}
 use Rattle.farkas_check.specs.Certificate.{Certificate}
 use Rattle.plant_model.specs.Plant.{Plant, Sample}
+use Rattle.observer_step.specs.Answers.{any_justified}
 use Rattle.observer_step.specs.SetsAnswers.{sets_observer}
 use Rattle.model_bank.specs.Answers.{SampleAnswer, sample_answer}
 use Rattle.model_bank.specs.Bank.{Bank, BankStands}
-use Rattle.model_bank.specs.Stepping.{TakesOffers, Refusal, RefusesOffer}
+use Rattle.model_bank.specs.Stepping.{TakesBy, Refusal, RefusesOffer}
 use Rattle.model_bank.specs.Seen.{model_seen, sample_seen, refusal_with}
 use Rattle.model_bank.specs.declared.record.ModelRec.{ModelRec}
 use Rattle.model_bank.specs.declared.record.SampleRec.{SampleRec}
@@ -21,7 +22,8 @@ use Rattle.report_rules.specs.Report.{Choice, samples_lines, lives_before}
 use Rattle.report_rules.specs.Replay.{watch, lines_so_far, chosen_at, DepartsAt, TakesEnough}
 use Rattle.report_rules.proofs.Chosen.{length-lives_before}
 use Rattle.report_rules.proofs.Placed.{length-allowed, length-preds}
-use Rattle.report_rules.proofs.Replays.{replayed-lives, lines-longer, replayed-more, sample-departs}
+use Rattle.report_rules.proofs.Longer.{longer-lives, longer-lines}
+use Rattle.report_rules.proofs.Replays.{replayed-more, sample-departs}
 use Rattle.report_rules.proofs.Offered.{refused_lines, refused_lines-depart, refused-departs}
 use Rattle.report_rules.proofs.Ranged.{CanBePrinted, refused_lines-ranged}
 use Rattle.cert_replay.specs.Window.{left_in, HasUnread, ReadsAhead, PartsBehind, TakesText, DepartsFrom, DepartsBehind}
@@ -87,7 +89,7 @@ module _ (names : List (List ℕ)) (ps : List Plant) (taken : List Sample) (byte
 
   -- ---- every offer is justified
 
-  module _ (bank : Bank) (last : SampleRec) (t : TakesOffers s os ps taken lives (sample_seen last) bank) where
+  module _ (bank : Bank) (last : SampleRec) (t : TakesBy any_justified s os ps taken lives (sample_seen last) bank) where
     abbrev answer : SampleAnswer
     answer = sample_answer sets_observer ps lives os all k
 
@@ -101,7 +103,7 @@ module _ (names : List (List ℕ)) (ps : List Plant) (taken : List Sample) (byte
     text-is = ap (λ a. lines_text (sample_lines a)) t.answer
 
     ranges : list_all is_in_range lines ≡ true
-    ranges = sample-ranged all k ps lives os models.few models.few_states many-lives number t.justified
+    ranges = sample-ranged all k ps lives os models.few models.few_states many-lives number t.allowed
         (subst (All CanBePrinted) (ap (λ (a : SampleAnswer). a.models) t.answer) (printed-all last.models.items))
 
     -- the lines of the sample stand
@@ -110,19 +112,19 @@ module _ (names : List (List ℕ)) (ps : List Plant) (taken : List Sample) (byte
       choice = longer;
       unread = left_in r.window ++ left.rest;
       left = record { rest = left.rest; told = left.told; is = refl };
-      replayed = replayed-more names ps taken checked.choice bytes checked.unread checked.replayed s os t.justified (left_in r.window ++ left.rest)
+      replayed = replayed-more names ps taken checked.choice bytes checked.unread checked.replayed s os t.allowed (left_in r.window ++ left.rest)
           (left.is ∙ ap (λ x. x ++ left.rest) (text.are ∙ ap (λ x. x ++ left_in r.window) text-is) ∙ append_assoc (lines_text lines) (left_in r.window) left.rest);
       stands = subst (BankStands ps all (lives_before longer (length ps) (length all))) (sym bank-is)
-          (subst (λ ls. BankStands ps all ls bank) (sym (replayed-lives names ps taken checked.choice bytes checked.unread checked.replayed s os)) t.stands);
+          (subst (λ ls. BankStands ps all ls bank) (sym (longer-lives ps taken checked.choice s os)) t.stands);
       possible_are = ap (λ (m : SampleRec). m.possible.items) last-is ∙ ap (λ (a : SampleAnswer). a.possible) t.answer
-          ∙ sym (replayed-lives names ps taken checked.choice bytes checked.unread checked.replayed s os);
+          ∙ sym (longer-lives ps taken checked.choice s os);
       lines = omega (arith, text.lines, line-before, ap (count_by is_feed) text-is, feeds-lines lines ranges, many);
     }
       where
         many : length (lines_so_far names ps all longer) ≡ length (lines_so_far names ps taken checked.choice) + length lines
         many =
             let before = samples_lines sets_observer ps taken checked.choice k in
-            ap (λ ls. length (head_lines names ++ ls)) (lines-longer names ps taken checked.choice bytes checked.unread checked.replayed s os)
+            ap (λ ls. length (head_lines names ++ ls)) (longer-lines ps taken checked.choice s os)
             ∙ ap length (sym (append_assoc (head_lines names) before lines)) ∙ length-append (head_lines names ++ before) lines
 
     -- a line of the sample does not stand
@@ -134,7 +136,7 @@ module _ (names : List (List ℕ)) (ps : List Plant) (taken : List Sample) (byte
         let tk = taken-enough (length lines) (omega (arith, length-sample all k ps lives os)) in
         let first = first-other lines ranges (left_in w1) left.rest checked.unread d.same left.is tk parts in
         subst (λ n. DepartsAt (watch names ps (all ++ more) is_whole) n bytes) (omega (arith, d.line_is, line-before, first.feeds))
-        (sample-departs names ps taken checked.choice bytes checked.unread checked.replayed s more is_whole models.few os t.justified ranges sample-taken.ts sample-taken.rest sample-taken.takes tk.enough
+        (sample-departs names ps taken checked.choice bytes checked.unread checked.replayed s more is_whole models.few os t.allowed ranges sample-taken.ts sample-taken.rest sample-taken.takes tk.enough
         first.j title first.rest first.within first.are (first.other title))
 
   -- ---- an offer is not justified

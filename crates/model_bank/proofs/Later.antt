@@ -16,9 +16,6 @@ module _ (samples more : List Sample) where
 
   -- of one model
   module _ (p : Plant) where
-    pub certificate-same : (k : ℕ) → k < length samples → certificate_at sets_observer p all k ≡ certificate_at sets_observer p samples k
-    certificate-same k h = λ i. certificate_by (due-same samples more p k h i) (candidate-same samples more p k h i)
-
     pub allows-same : (rule : Rule) (k : ℕ) (c : Option Certificate) → k < length samples → allows_at rule sets_observer p all k c ≡ allows_at rule sets_observer p samples k c
     allows-same rule k c h = λ i. is_allowed rule (due-same samples more p k h i) (refutes-same samples more p k h i) (candidate-same samples more p k h i) c
 
@@ -37,10 +34,6 @@ module _ (samples more : List Sample) where
 
   -- of all models
   module _ (k : ℕ) (h : k < length samples) where
-    pub certificates-same : (ps : List Plant) → certificates_at sets_observer ps all k ≡ certificates_at sets_observer ps samples k
-    certificates-same [] = refl
-    certificates-same (p ∷ ps) = λ i. certificate-same p k h i ∷ certificates-same ps i
-
     pub answers-same : (i : ℕ) (ps : List Plant) (lives : List Bool) (cs : List (Option Certificate)) → answers_from sets_observer i ps lives cs all k ≡ answers_from sets_observer i ps lives cs samples k
     answers-same i [] lives cs = refl
     answers-same i (p ∷ ps) [] cs = refl

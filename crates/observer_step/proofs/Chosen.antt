@@ -1,34 +1,12 @@
 -- Which certificates `run` may choose.
-use Rattle.std.proofs.Common.{◌≡◌, ℕ, ◌==◌, List, [], ◌∷◌, ℤ, Bool, true, false, not, ◌&&◌, is_none, Option, None, Some, refl, ap, sym, ◌∙◌, arith, if◌then◌else◌}
-use Rattle.std.specs.Ordering.{int_eq}
-use Rattle.std.proofs.lemmas.Int.{ints}
+use Rattle.std.proofs.Common.{◌≡◌, ℕ, ◌==◌, List, ℤ, Bool, true, not, ◌&&◌, is_none, Option, None, Some, refl, ap, sym, ◌∙◌, arith, if◌then◌else◌}
+use Rattle.std.specs.Cmp.Rules.{signed_items}
 use Rattle.std.proofs.lemmas.Bool.Decides.{nat_tests}
-use lib.Pointwise.{pointwise}
 use Rattle.farkas_check.specs.Certificate.{Certificate, by_out, by_rows}
 use Rattle.farkas_check.specs.Multipliers.{are_multipliers}
 use Rattle.observer_step.specs.Answers.{is_chosen, is_justified, certificate_by}
 use Rattle.observer_step.specs.Offers.{offers_output}
 use Rattle.observer_step.specs.SetsAnswers.{if_multipliers}
-
-same-list : (xs : List ℤ) → pointwise int_eq xs xs ≡ true
-same-list [] = refl
-same-list (x ∷ xs) = ap (λ b. b && pointwise int_eq xs xs) (itself x) ∙ same-list xs
-  where
-    itself : (x : ℤ) → int_eq x x ≡ true
-    itself x = grind (arith, ints, nat_tests)
-
-list-same : (xs ys : List ℤ) → pointwise int_eq xs ys ≡ true → xs ≡ ys
-list-same [] [] is = refl
-list-same [] (y ∷ ys) is = absurd cc
-list-same (x ∷ xs) [] is = absurd cc
-list-same (x ∷ xs) (y ∷ ys) is = by (int_eq x y) refl (list-same xs ys) is
-  where
-    equal : int_eq x y ≡ true → x ≡ y
-    equal e = grind (arith, ints, nat_tests)
-
-    by : (b : Bool) → int_eq x y ≡ b → (pointwise int_eq xs ys ≡ true → xs ≡ ys) → b && pointwise int_eq xs ys ≡ true → x ∷ xs ≡ y ∷ ys
-    by true e others rest = λ i. equal e i ∷ others rest i
-    by false e others rest = absurd cc
 
 same-output : (o : ℕ) → (o == o) ≡ true
 same-output o = grind (arith, nat_tests)
@@ -38,7 +16,7 @@ module _ (refutes : List ℤ → Bool) where
   pub chosen : (output : Option ℕ) (first : Option (List ℤ)) → is_chosen output refutes first (certificate_by output first) ≡ true
   chosen (Some o) first = same-output o
   chosen None None = refl
-  chosen None (Some list) = same-list list
+  chosen None (Some list) = (signed_items list list).1 refl
 
   -- it is justified, where candidates refute
   pub chosen-justified : (output : Option ℕ) (first : Option (List ℤ)) (c : Option Certificate)
@@ -48,7 +26,7 @@ module _ (refutes : List ℤ → Bool) where
   chosen-justified None None c good is = is
   chosen-justified None (Some l) None good is = absurd cc
   chosen-justified None (Some l) (Some (by_out p)) good is = absurd cc
-  chosen-justified None (Some l) (Some (by_rows ls)) good is = ap (λ l. refutes l && are_multipliers l) (list-same ls l is) ∙ good l refl
+  chosen-justified None (Some l) (Some (by_rows ls)) good is = ap (λ l. refutes l && are_multipliers l) ((signed_items ls l).0 is) ∙ good l refl
 
   -- the readings are taken unless it is an output
   pub taken-chosen : (output : Option ℕ) (first : Option (List ℤ)) (c : Option Certificate) → is_chosen output refutes first c ≡ true
@@ -66,7 +44,7 @@ module _ (refutes : List ℤ → Bool) where
       → is_chosen None refutes (if_multipliers first) (Some (by_rows list)) ≡ true
   candidate-chosen first list is good =
       let kept : if_multipliers first ≡ Some list = ap if_multipliers (sym is) ∙ ap (λ b. if b then Some list else None) good in
-      ap (λ f. is_chosen None refutes f (Some (by_rows list))) kept ∙ same-list list
+      ap (λ f. is_chosen None refutes f (Some (by_rows list))) kept ∙ (signed_items list list).1 refl
 
   -- where there is no candidate, all that is justified may be
   pub proposed-chosen : (first : Option (List ℤ)) (c : Option Certificate) → None ≡ first → is_justified None refutes c ≡ true

@@ -1,4 +1,4 @@
--- Two justified reports agree as far as their texts do; and a justified choice goes on with the certificates that are due.
+-- Two justified reports agree as far as their texts do.
 use Rattle.std.proofs.Common.{◌≡◌, ◌⊎◌, inl, inr, ℕ, ◌<◌, ◌≤◌, nat_lt, Bool, true, false, List, [], ◌∷◌, ◌++◌, length, map, take, if◌then◌else◌, refl, sym, ap, ◌∙◌, arith, length-append}
 use Rattle.std.proofs.lemmas.Bool.Decides.{nat_tests}
 use Rattle.std.proofs.lemmas.List.{append-nil, length-map, take_at}
@@ -60,50 +60,3 @@ module _ (o : Observer) (w : Watch) (few : AreFew w.plants) (c c' : Choice) (all
       by : ReportsAlike → stuff ≡ []
       by (inl same) = nothing-behind (report o w c) stuff (same ∙ e)
       by (inr parts) = absurd (parted-no-front parts [] stuff (append-nil (report o w c') ∙ e))
-
--- ---- a choice for the first samples goes on with the certificates that are due
-
-abbrev pub extended : List Plant → List Sample → Choice → ℕ → Choice
-extended ps samples c n j = if nat_lt j n then c j else certificates_at sets_observer ps samples j
-
-module _ (ps : List Plant) (samples : List Sample) (c : Choice) (n : ℕ) (allowed : IsAllowedTo sets_observer ps samples c n) where
-  abbrev longer : Choice
-  longer = extended ps samples c n
-
-  before-n : (j : ℕ) → j < n → longer j ≡ c j
-  before-n j l = ap (λ b. if b then c j else certificates_at sets_observer ps samples j) within
-    where
-      within : nat_lt j n ≡ true
-      within = grind (arith, nat_tests)
-
-  lives-before_n : (j : ℕ) → j ≤ n → lives_before longer (length ps) j ≡ lives_before c (length ps) j
-  lives-before_n j l = lives-alike longer c (length ps) j (λ i h. before-n i (omega (arith, l, h)))
-
-  pub extended-lines : samples_lines sets_observer ps samples (extended ps samples c n) n ≡ samples_lines sets_observer ps samples c n
-  extended-lines = lines-alike ps samples longer c n before-n
-
-  abbrev every : List Bool
-  every = map (λ p. true) ps
-
-  -- something is said of each model
-  many-said : (j : ℕ) → length (longer j) ≡ length ps
-  many-said j = by (nat_lt j n) refl
-    where
-      by : (b : Bool) → nat_lt j n ≡ b → length (if b then c j else certificates_at sets_observer ps samples j) ≡ length ps
-      by true h = (length-allowed sets_observer samples j ps (lives_before c (length ps) j) (c j) (allowed j (grind (arith, nat_tests)))).1
-      by false h = (length-allowed sets_observer samples j ps every (certificates_at sets_observer ps samples j)
-          (dues-allowed any_justified ps every samples j (length-map ps (λ p. true)))).1
-
-  pub extended-allowed : (j : ℕ) → all_allowed any_justified sets_observer ps (lives_before (extended ps samples c n) (length ps) j)
-      (extended ps samples c n j) samples j ≡ true
-  extended-allowed j = by (nat_lt j n) refl
-    where
-      by : (b : Bool) → nat_lt j n ≡ b
-          → all_allowed any_justified sets_observer ps (lives_before longer (length ps) j)
-          (if b then c j else certificates_at sets_observer ps samples j) samples j ≡ true
-      by true h =
-          let within : j < n = grind (arith, nat_tests) in
-          ap (λ lives. all_allowed any_justified sets_observer ps lives (c j) samples j) (lives-before_n j (omega (arith, within)))
-          ∙ allowed j within
-      by false h =
-          dues-allowed any_justified ps (lives_before longer (length ps) j) samples j (length-lives_before longer (length ps) j (λ i l. many-said i))

@@ -1,14 +1,12 @@
 -- What `run` may put is accepted, and the report with the certificates that are due is one that it may put.
 use Rattle.std.proofs.Common.{◌≡◌, ℕ, zero, suc, ◌<◌, ℤ, List, [], ◌∷◌, length, Option, Some, None, option_map, Bool, true, false, not, ◌||◌, ◌&&◌, refl, sym, ap, ◌∙◌, arith}
-use Rattle.std.specs.Cmp.Rules.{signed_items}
-use Rattle.std.proofs.lemmas.Bool.Decides.{nat_tests}
 use Rattle.std.proofs.lemmas.List.{length-map, length-replicate}
-use Rattle.farkas_check.specs.Certificate.{Certificate, by_out, by_rows}
-use Rattle.farkas_check.specs.Multipliers.{are_multipliers}
+use Rattle.farkas_check.specs.Certificate.{Certificate}
 use Rattle.plant_model.specs.Plant.{Plant, Sample}
-use Rattle.observer_step.specs.Answers.{Observer, due_at, certificate_at, is_justified, is_chosen, any_justified, as_run_chooses, allows_at}
+use Rattle.observer_step.specs.Answers.{Observer, due_at, certificate_at, any_justified, as_run_chooses, allows_at}
 use Rattle.observer_step.specs.Sets.{corrected_sets}
 use Rattle.observer_step.specs.SetsAnswers.{sets_observer}
+use Rattle.observer_step.proofs.Chosen.{chosen-justified}
 use Rattle.observer_step.proofs.Later.{candidate-refutes}
 use Rattle.model_bank.proofs.Allowed.{dues-allowed}
 use Rattle.model_bank.specs.Answers.{all_allowed, certificates_at, live_after}
@@ -17,14 +15,6 @@ use Rattle.report_rules.specs.Report.{lives_before, due_choice}
 use Rattle.report_rules.specs.Laws.{RunIsAccepted, DueIsChosen, EstimateRefutes}
 
 -- ---- what `run` chooses is justified
-
-chosen-justified : (due : Option ℕ) (refutes : List ℤ → Bool) (first : Option (List ℤ)) (c : Option Certificate) → ((ls : List ℤ) → first ≡ Some ls → refutes ls && are_multipliers ls ≡ true)
-    → is_chosen due refutes first c ≡ true → is_justified due refutes c ≡ true
-chosen-justified (Some o) refutes first c good h = h
-chosen-justified None refutes None c good h = h
-chosen-justified None refutes (Some l) None good h = refl
-chosen-justified None refutes (Some l) (Some (by_out p)) good h = h
-chosen-justified None refutes (Some l) (Some (by_rows ls)) good h = ap (λ ms. refutes ms && are_multipliers ms) ((signed_items ls l).0 h) ∙ good l refl
 
 module _ (o : Observer) (good : CandidatesRefute o) where
   all-justified : (ps : List Plant) (lives : List Bool) (cs : List (Option Certificate)) (samples : List Sample) (k : ℕ)
@@ -36,7 +26,7 @@ module _ (o : Observer) (good : CandidatesRefute o) where
   all-justified (p ∷ ps) (live ∷ lives) [] samples k h = h
   all-justified (p ∷ ps) (live ∷ lives) (c ∷ cs) samples k h =
       by (all-justified ps lives cs samples k) live (allows_at as_run_chooses o p samples k c) (allows_at any_justified o p samples k c)
-      (chosen-justified (due_at o p samples k) (o.refutes p samples k) (o.candidate p samples k) c (good p samples k)) h
+      (chosen-justified (o.refutes p samples k) (due_at o p samples k) (o.candidate p samples k) c (good p samples k)) h
     where
       by : (all_allowed as_run_chooses o ps lives cs samples k ≡ true → all_allowed any_justified o ps lives cs samples k ≡ true)
           → (live chosen justified : Bool) → (chosen ≡ true → justified ≡ true) → (not live || chosen) && all_allowed as_run_chooses o ps lives cs samples k ≡ true

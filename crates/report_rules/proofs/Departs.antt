@@ -12,7 +12,8 @@ use Rattle.report_rules.specs.Report.{Watch, Choice, samples_lines, report, Allo
 use Rattle.report_rules.specs.Replay.{AreFew, watch, lines_so_far, Replayed, SatisfiesBy, Satisfies, DepartsAt}
 use Rattle.report_rules.proofs.Parting.{cut-at}
 use Rattle.report_rules.proofs.Alike.{front-alike}
-use Rattle.report_rules.proofs.Agree.{fronts-agree, reports-end, extended, extended-allowed}
+use Rattle.report_rules.proofs.Agree.{fronts-agree, reports-end}
+use Rattle.report_rules.proofs.Longer.{extended, extended-allowed}
 
 -- ---- texts of lines
 
@@ -233,7 +234,7 @@ module _ (names : List (List ℕ)) (ps : List Plant) (samples : List Sample) (is
   pub head-departs : DepartsAt (watch names ps samples is_whole) (j + 1) bytes
   head-departs =
       let due = extended ps samples (λ k. []) 0 in
-      let allowed = λ (k : ℕ) (l : k < length samples). extended-allowed ps samples (λ k. []) 0 (λ k l. absurd (omega (arith, l))) k in
+      let allowed = λ (k : ℕ) (l : k < length samples). extended-allowed any_justified ps samples (λ k. []) 0 (λ k l. absurd (omega (arith, l))) k in
       let rest = get_or head j d ∷ (drop (suc j) head ++ behind_head due) in
       let whole : report_of of_head due ≡ take j head ++ rest =
       report-is due ∙ ap (λ ls. ls ++ behind_head due) cut ∙ append_assoc (take j head) (get_or head j d ∷ drop (suc j) head) (behind_head due) in

@@ -9,22 +9,7 @@ use Rattle.report_text.specs.Line.{Line, put_text, lines_text}
 use Rattle.report_rules.specs.Lines.{head_lines, sample_lines}
 use Rattle.report_rules.specs.Report.{Watch, Choice, lives_before, samples_lines, report, AllowedBefore}
 use Rattle.report_rules.specs.Replay.{watch, lines_so_far, Replayed, CoversBefore}
-use Rattle.report_rules.proofs.Later.{all_allowed-same, lines-same}
-
--- the lines of the first n samples begin those of more, with any choice
-pub samples_lines-begin : (o : Observer) (ps : List Plant) (samples : List Sample) (c : Choice) (n extra : ℕ)
-    → (others : List Line) × (samples_lines o ps samples c (n + extra) ≡ samples_lines o ps samples c n ++ others)
-unfolding samples_lines
-samples_lines-begin o ps samples c n zero =
-    let e : n + 0 ≡ n = omega arith in
-    ([], ap (samples_lines o ps samples c) e ∙ sym (append-nil (samples_lines o ps samples c n)))
-samples_lines-begin o ps samples c n (suc extra) =
-    let before = samples_lines-begin o ps samples c n extra in
-    let lines = sample_lines (sample_answer o ps (lives_before c (length ps) (n + extra)) (c (n + extra)) samples (n + extra)) in
-    let e : n + suc extra ≡ suc (n + extra) = omega arith in (
-      before.0 ++ lines,
-      ap (samples_lines o ps samples c) e ∙ ap (λ ls. ls ++ lines) before.1 ∙ append_assoc (samples_lines o ps samples c n) before.0 lines,
-    )
+use Rattle.report_rules.proofs.Longer.{allowed-first, lines-first}
 
 module _ (names : List (List ℕ)) (ps : List Plant) (c : Choice) (bytes left : List ℕ) (first more : List Sample)
     (replayed : Replayed names ps (first ++ more) c bytes left) where
@@ -32,20 +17,13 @@ module _ (names : List (List ℕ)) (ps : List Plant) (c : Choice) (bytes left : 
   abbrev begun : Watch
   begun = watch names ps first false
 
-  allowed-first : AllowedBefore any_justified sets_observer begun c (length first)
-  allowed-first k l =
-      sym (all_allowed-same first more any_justified ps (lives_before c (length ps) k) (c k) k l)
-      ∙ replayed.allowed k (omega (arith, l, length-append first more))
-
   -- their report, which has no last line, begins the lines so far
   report-first : (others : List Line) × (lines_so_far names ps (first ++ more) c ≡ report sets_observer begun c ++ others)
   report-first =
       let head = head_lines names in
-      let begin = samples_lines-begin sets_observer ps (first ++ more) c (length first) (length more) in (
+      let begin = lines-first ps first more c in (
         begin.0,
-        ap (λ n. head ++ samples_lines sets_observer ps (first ++ more) c n) (length-append first more)
-            ∙ ap (λ ls. head ++ ls) begin.1
-            ∙ ap (λ ls. head ++ (ls ++ begin.0)) (lines-same first more ps c (length first) (omega arith))
+        ap (λ ls. head ++ ls) begin.1
             ∙ grouped head (samples_lines sets_observer ps first c (length first)) begin.0,
       )
     where
@@ -60,7 +38,7 @@ module _ (names : List (List ℕ)) (ps : List Plant) (c : Choice) (bytes left : 
       replayed.text ∙ ap (λ ls. lines_text ls ++ left) report-first.1 ∙ ap (λ t. t ++ left) (flat_map-append put_text lines others)
       ∙ append_assoc (lines_text lines) (lines_text others) left in
       let many : length (lines_so_far names ps (first ++ more) c) ≡ length (lines ++ others) = ap length report-first.1 in (
-        (lines, record { choice = c; allowed = allowed-first; is = refl }, lines_text others ++ left, text),
+        (lines, record { choice = c; allowed = allowed-first any_justified ps first more c replayed.allowed; is = refl }, lines_text others ++ left, text),
         omega (arith, past, many, length-append lines others),
       )
 

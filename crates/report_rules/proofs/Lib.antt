@@ -12,3 +12,4 @@ pub mod Fronts
 pub mod Replays
 pub mod Offered
 pub mod Ranged
+pub mod Longer

@@ -14,26 +14,11 @@ use Rattle.report_text.specs.Ranges.{is_in_range}
 use Rattle.report_rules.specs.Lines.{head_lines, sample_lines, last_lines}
 use Rattle.report_rules.specs.Report.{Watch, Choice, lives_before, samples_lines}
 use Rattle.report_rules.specs.Replay.{AreFew, watch, lines_so_far, Replayed, chosen_at, DepartsAt, with_feeds, is_short_line, OffersAre, Takes, TakesEnough}
-use Rattle.report_rules.proofs.Later.{all_allowed-same, lines-same, lives-alike, lines-alike, sample_answer-same}
+use Rattle.report_rules.proofs.Later.{all_allowed-same, lines-same, samples_lines-begin, sample_answer-same}
 use Rattle.report_rules.proofs.Parting.{BeginsOrParts, parts-like, parts-before, cut-at, next-line}
 use Rattle.report_rules.proofs.Alike.{IsAllowedTo, lines-more, SampleAlike, sample-alike, front-alike}
-use Rattle.report_rules.proofs.Agree.{extended, extended-lines, extended-allowed}
-use Rattle.report_rules.proofs.Fronts.{samples_lines-begin}
+use Rattle.report_rules.proofs.Longer.{longer-lines, longer-allowed, extended, extended-lines, extended-allowed}
 use Rattle.report_rules.proofs.Departs.{IsJustified, report_of, lines_text-append, departs}
-
--- ---- a choice that is changed at one sample
-
-test-other : (j k : ℕ) → j < k → (j == k) ≡ false
-test-other j k l = grind (arith, nat_tests)
-
-test-here : (k : ℕ) → (k == k) ≡ true
-test-here k = grind (arith, nat_tests)
-
-chosen-before : (k : ℕ) (cs : List (Option Certificate)) (c : Choice) (j : ℕ) → j < k → chosen_at k cs c j ≡ c j
-chosen-before k cs c j l = ap (λ b. if b then cs else c j) (test-other j k l)
-
-chosen-here : (k : ℕ) (cs : List (Option Certificate)) (c : Choice) → chosen_at k cs c k ≡ cs
-chosen-here k cs c = ap (λ b. if b then cs else c k) (test-here k)
 
 -- ---- the first sample
 
@@ -73,50 +58,9 @@ module _ (names : List (List ℕ)) (ps : List Plant) (taken : List Sample) (c : 
     abbrev longer : Choice
     longer = chosen_at k os c
 
-    lives-longer : (j : ℕ) → j ≤ k → lives_before longer m j ≡ lives_before c m j
-    lives-longer j l = lives-alike longer c m j (λ i h. chosen-before k os c i (omega arith))
-
-    -- which models are live then
-    pub replayed-lives : lives_before (chosen_at k os c) m (length all) ≡ live_after lives os
-    unfolding lives_before
-    replayed-lives =
-        ap (lives_before longer m) one-more ∙ ap (λ ls. live_after ls (longer k)) (lives-longer k (omega arith)) ∙ ap (live_after lives)
-        (chosen-here k os c)
-
-    -- the lines of the sample stand behind the others
-    pub lines-longer : samples_lines sets_observer ps all longer (length all)
-        ≡ samples_lines sets_observer ps taken c k ++ sample_lines (sample_answer sets_observer ps lives os all k)
-    unfolding samples_lines
-    lines-longer =
-        ap (samples_lines sets_observer ps all longer) one-more
-        ∙ ap (λ ls. ls ++ sample_lines (sample_answer sets_observer ps (lives_before longer m k) (longer k) all k))
-        (lines-same taken (s ∷ []) ps longer k (omega arith) ∙ lines-alike ps taken longer c k (λ i h. chosen-before k os c i h))
-        ∙ ap (λ ls. samples_lines sets_observer ps taken c k ++ sample_lines (sample_answer sets_observer ps ls (longer k) all k))
-        (lives-longer k (omega arith))
-        ∙ ap (λ cs. samples_lines sets_observer ps taken c k ++ sample_lines (sample_answer sets_observer ps lives cs all k))
-        (chosen-here k os c)
-
     module _ (allowed : all_allowed any_justified sets_observer ps lives os all k ≡ true) where
-      allowed-before : (j : ℕ) → j < k → all_allowed any_justified sets_observer ps (lives_before longer m j) (longer j) all j ≡ true
-      allowed-before j l =
-          ap (λ ls. all_allowed any_justified sets_observer ps ls (longer j) all j) (lives-longer j (omega arith))
-          ∙ ap (λ cs. all_allowed any_justified sets_observer ps (lives_before c m j) cs all j) (chosen-before k os c j l)
-          ∙ all_allowed-same taken (s ∷ []) any_justified ps (lives_before c m j) (c j) j l
-          ∙ replayed.allowed j l
-
-      allowed-here : (j : ℕ) → j ≡ k → all_allowed any_justified sets_observer ps (lives_before longer m j) (longer j) all j ≡ true
-      allowed-here j e =
-          ap (λ j. all_allowed any_justified sets_observer ps (lives_before longer m j) (longer j) all j) e
-          ∙ ap (λ ls. all_allowed any_justified sets_observer ps ls (longer k) all k) (lives-longer k (omega arith))
-          ∙ ap (λ cs. all_allowed any_justified sets_observer ps lives cs all k) (chosen-here k os c)
-          ∙ allowed
-
       allowed-then : (j : ℕ) → j < length all → all_allowed any_justified sets_observer ps (lives_before longer m j) (longer j) all j ≡ true
-      allowed-then j l = by (eq-or-lt_of_le (omega (arith, l, one-more)))
-        where
-          by : (j ≡ k) ⊎ (j < k) → all_allowed any_justified sets_observer ps (lives_before longer m j) (longer j) all j ≡ true
-          by (inl here) = allowed-here j here
-          by (inr before) = allowed-before j before
+      allowed-then = longer-allowed ps taken c any_justified replayed.allowed s os allowed
 
       -- what is known goes on behind the sample's lines
       pub replayed-more : (left' : List ℕ) → left ≡ lines_text (sample_lines (sample_answer sets_observer ps lives os all k)) ++ left'
@@ -129,7 +73,7 @@ module _ (names : List (List ℕ)) (ps : List Plant) (taken : List Sample) (c : 
                 replayed.text ∙ ap (λ t. lines_text front ++ t) e ∙ sym (append_assoc (lines_text front) (lines_text lines) left')
                 ∙ ap (λ t. t ++ left') (sym (lines_text-append front lines))
                 ∙ ap (λ ls. lines_text ls ++ left') (append_assoc (head_lines names) (samples_lines sets_observer ps taken c k) lines)
-                ∙ ap (λ ls. lines_text (head_lines names ++ ls) ++ left') (sym lines-longer);
+                ∙ ap (λ ls. lines_text (head_lines names ++ ls) ++ left') (sym (longer-lines ps taken c s os));
           }
 
   -- ---- the report of more samples
@@ -177,12 +121,12 @@ module _ (names : List (List ℕ)) (ps : List Plant) (taken : List Sample) (c : 
         allowed-whole j l = all_allowed-same all more any_justified ps (lives_before (longer os) m j) (longer os j) j l ∙ allowed-then os allowed j l
 
         kept-justified : IsJustified w kept
-        kept-justified j l = extended-allowed ps whole (longer os) (length all) allowed-whole j
+        kept-justified j l = extended-allowed any_justified ps whole (longer os) (length all) allowed-whole j
 
         kept-lines : first_lines whole kept (length all) ≡ first_lines taken c k ++ lines_by os
         kept-lines =
-            extended-lines ps whole (longer os) (length all) allowed-whole
-            ∙ lines-same all more ps (longer os) (length all) (omega arith) ∙ lines-longer os
+            extended-lines any_justified ps whole (longer os) (length all) allowed-whole
+            ∙ lines-same all more ps (longer os) (length all) (omega arith) ∙ longer-lines ps taken c s os
 
         -- it has the lines so far, those of the sample, and others
         kept-report : (others : List Line) × (report_of w kept ≡ front ++ (lines_by os ++ others))
