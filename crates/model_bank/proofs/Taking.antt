@@ -1,5 +1,5 @@
 -- A loop over the members of a bank, one member on.
-use Rattle.std.proofs.Common.{Vec, ◌≡◌, ℕ, ◌+◌, ◌<◌, ◌≤◌, ℤ, List, [], ◌∷◌, ◌++◌, length, map, take, drop, get_or, set, Option, None, Some, IfSome, option_map, if◌then◌else◌, Bool, true, false, not, ◌&&◌, ◌||◌, ◌×◌, refl, sym, ap, ◌∙◌, arith, append_assoc, add-zero}
+use Rattle.std.proofs.Common.{Vec, ◌≡◌, ℕ, ◌+◌, ◌<◌, ◌≤◌, ℤ, List, [], ◌∷◌, ◌++◌, length, map, take, drop, get_or, set, Option, None, Some, IfSome, option_map, if◌then◌else◌, Bool, true, false, not, ◌&&◌, ◌||◌, refl, sym, ap, ◌∙◌, arith, append_assoc, add-zero}
 use Rattle.std.specs.Borrow.{Bor}
 use Rattle.std.specs.Option.{option_to_list}
 use Rattle.std.specs.Vec.{with_items}
@@ -134,7 +134,7 @@ module _ (is_first : Bool) (u : List ℤ) (s : Sample) (offered : Option (Bor (L
     as_many : length cs ≡ length (take i old)
     as_many = took.long ∙ sym (length-take-le i old (omega arith))
 
-    front : List Member
+    abbrev front : List Member
     front = members_after is_first u s (take i old) cs
 
     front-long : length front ≡ i

@@ -1,5 +1,5 @@
 -- What taking a sample does to a bank, for every list of samples and of live models that it stands for.
-use Rattle.std.specs.Prelude.{◌≡◌, ℕ, ℤ, Bool, true, false, List, [], ◌∷◌, ◌++◌, length, Option, ◌×◌}
+use Rattle.std.specs.Prelude.{◌≡◌, ℕ, ℤ, Bool, true, false, List, [], ◌∷◌, ◌++◌, length, Option}
 use Rattle.farkas_check.specs.Certificate.{Certificate}
 use Rattle.plant_model.specs.Plant.{Plant, Sample}
 use Rattle.observer_step.specs.Answers.{Rule, any_justified, as_run_chooses, answer_with, due_at, allows_at}

@@ -1,5 +1,5 @@
 -- The turns of a run over the rows of a telemetry.
-use Rattle.std.proofs.Common.{◌≡◌, ℕ, ◌+◌, List, [], ◌∷◌, ◌++◌, length, Option, Some, None, IfSome, Result, Ok, Err, IfOk, IfErr, OnOk, OnErr, refl, sym, ap, ◌∙◌, subst, arith, append_assoc, append-nil, length-append, is_none, replicate, true}
+use Rattle.std.proofs.Common.{◌≡◌, ℕ, ◌+◌, ◌<◌, List, [], ◌∷◌, ◌++◌, length, Option, Some, None, IfSome, Result, Ok, Err, IfOk, IfErr, OnOk, OnErr, refl, sym, ap, ◌∙◌, subst, arith, append_assoc, append-nil, length-append, is_none, Bool, true}
 use Rattle.outside_io.specs.Sink.{SinkState, Gains, GainsFront}
 use Rattle.outside_io.proofs.Grows.{appends_more, appends_none}
 use Rattle.outside_io.proofs.Fronts.{front-after, front-before, whole-front}
@@ -8,17 +8,19 @@ use Rattle.telem_csv.specs.Columns.{Columns}
 use Rattle.telem_csv.specs.Cutter.{Cutter, rows_owed}
 use Rattle.telem_csv.specs.Rows.{Rows, no_rows, refused_rows}
 use Rattle.telem_csv.specs.declared.fault.TelemFault.{TelemFault}
+use Rattle.observer_step.specs.Answers.{as_run_chooses}
 use Rattle.observer_step.specs.SetsAnswers.{sets_observer}
-use Rattle.model_bank.specs.Answers.{SampleAnswer}
+use Rattle.model_bank.specs.Answers.{SampleAnswer, all_allowed}
 use Rattle.model_bank.specs.Bank.{Bank, BankStands}
 use Rattle.report_text.specs.Line.{Line, lines_text, put_text, end}
 use Rattle.input_files.proofs.Streams.{told-then}
-use Rattle.report_rules.proofs.Fronts.{samples_lines-begin}
-use Rattle.report_rules.proofs.Later.{due-lines-same, due-lines-more, due-lives-more}
+use Rattle.report_rules.proofs.Later.{all_allowed-same, lines-same}
+use Rattle.report_rules.proofs.Longer.{longer-lives, longer-lines, longer-allowed, extended, extended-lines, extended-allowed, lines-first}
 use Rattle.std.proofs.lemmas.Grind.{flat_map-append}
 use Rattle.report_rules.specs.Lines.{sample_lines, last_lines}
-use Rattle.report_rules.specs.Report.{samples_lines, lives_before, due_choice}
-use Rattle.model_bank.specs.Stepping.{RecordsSample, StandsLonger}
+use Rattle.report_rules.specs.Report.{Choice, samples_lines, lives_before}
+use Rattle.report_rules.specs.Replay.{chosen_at}
+use Rattle.model_bank.specs.Stepping.{TakesBy, TakesChosen}
 use Rattle.input_files.specs.Stream.{BothTold, with_sample}
 use Rattle.outside_io.specs.declared.sink.PutFault.{PutFault}
 use Rattle.outside_io.specs.declared.sink.PutFault.TheVariants as put
@@ -27,14 +29,17 @@ use Rattle.monitor_run.specs.declared.done.RunFault.{RunFault}
 use Rattle.monitor_run.specs.declared.done.RunFault.TheVariants.{Model, Telemetry, Read, Write, Memory}
 use Rattle.input_files.specs.declared.stream.StreamFault.{StreamFault}
 use Rattle.input_files.specs.declared.stream.StreamFault.TheVariants as stream
-use Rattle.monitor_run.specs.Outcome.{PutsReport}
-use Rattle.monitor_run.specs.Rows.{rows_lines, due_lines, StandsDue, behind, SaysOfRows, IsPutEnding, ending_of, put_ending}
+use Rattle.monitor_run.specs.Outcome.{GainsLines, GainsLinesFront, PutsReport}
+use Rattle.monitor_run.specs.Rows.{IsChoice, chosen_lines, rows_lines, AreRows, StandsNew, StandsChosen, behind, SaysOfRows, IsPutEnding, ending_of, put_ending}
 
--- after these samples: the bank stands for them, their lines were put, and the rest of the telemetry is what it owed less these samples
+-- after these samples: the bank stands for them by what was chosen, their lines were put, and the rest of the telemetry is what it
+-- owed less these samples
 pub record Monitored (head : Columns) (bank0 bank : Bank) (c0 c : Cutter) (left0 left : List ℕ) (rest0 rest : Option (List ℕ)) (held0 held : SinkState) (taken : List Sample) : Type 0 where
-  pub stands : (ps : List Plant) → StandsDue ps [] bank0 → StandsDue ps taken bank
+  pub choice : Choice
+  pub stands : (ps : List Plant) → StandsNew ps bank0 → StandsChosen ps taken choice bank
+  pub chosen : (ps : List Plant) → StandsNew ps bank0 → IsChoice ps taken choice
   pub counts : bank.count ≡ length taken
-  pub puts : (ps : List Plant) → StandsDue ps [] bank0 → Gains (lines_text (due_lines ps taken (length taken))) held0 held
+  pub puts : (ps : List Plant) → StandsNew ps bank0 → Gains (lines_text (chosen_lines ps taken choice)) held0 held
   pub owes : BothTold rest0 rest (λ r r'. rows_owed head c0 (left0 ++ r) ≡ behind taken (rows_owed head c (left ++ r')))
 
 -- a claim on what was there, from what is told of it and of what is there now
@@ -50,138 +55,171 @@ told-same (Some r) P f = f r
 pub lines-append : (xs ys : List Line) → lines_text (xs ++ ys) ≡ lines_text xs ++ lines_text ys
 lines-append xs ys = flat_map-append put_text xs ys
 
--- more samples put more lines behind those of the first ones
-pub lines-longer : (ps : List Plant) (samples : List Sample) (n j : ℕ) → (tail : List Line) × (due_lines ps samples (n + j) ≡ due_lines ps samples n ++ tail)
-lines-longer ps samples n j = samples_lines-begin sets_observer ps samples (due_choice sets_observer ps samples) n j
-
--- the lines of the samples taken are a front of those of all rows
-rows-longer : (ps : List Plant) (taken : List Sample) (rows : Rows) → (tail : List Line) × (rows_lines ps (behind taken rows) ≡ due_lines ps taken (length taken) ++ tail)
-rows-longer ps taken rows =
+-- what is chosen for the samples taken goes on over all rows, and its lines there begin with those of the samples taken
+goes-on : (ps : List Plant) (taken : List Sample) (c : Choice) → IsChoice ps taken c → (rows : Rows)
+    → (d : Choice) × IsChoice ps (taken ++ rows.samples) d × (tail : List Line) × (rows_lines ps (behind taken rows) d ≡ chosen_lines ps taken c ++ tail)
+goes-on ps taken c chosen rows =
     let all = taken ++ rows.samples in
+    let n = length taken in
+    let allowed : (j : ℕ) → j < n → all_allowed as_run_chooses sets_observer ps (lives_before c (length ps) j) (c j) all j ≡ true =
+    λ j l. all_allowed-same taken rows.samples as_run_chooses ps (lives_before c (length ps) j) (c j) j l ∙ chosen j l in
+    let d = extended ps all c n in
     let last = last_lines (length all) (is_none rows.refusal) in
-    let more = lines-longer ps all (length taken) (length rows.samples) in
-    let whole : length all ≡ length taken + length rows.samples = length-append taken rows.samples in (
+    let more = lines-first ps taken rows.samples d in
+    let same : chosen_lines ps taken d ≡ chosen_lines ps taken c =
+    sym (lines-same taken rows.samples ps d n (omega arith)) ∙ extended-lines as_run_chooses ps all c n allowed ∙ lines-same taken rows.samples ps c n (omega arith) in (
+      d,
+      λ j l. extended-allowed as_run_chooses ps all c n allowed j,
       more.0 ++ last,
-      ap (λ n. due_lines ps all n ++ last) whole ∙ ap (λ ls. ls ++ last) more.1
-          ∙ append_assoc (due_lines ps all (length taken)) more.0 last
-          ∙ ap (λ ls. ls ++ (more.0 ++ last)) (due-lines-same ps taken rows.samples (length taken) (omega arith)),
+      ap (λ ls. ls ++ last) more.1 ∙ append_assoc (chosen_lines ps taken d) more.0 last ∙ ap (λ ls. ls ++ (more.0 ++ last)) same,
     )
 
 module _ {head : Columns} {bank0 bank : Bank} {c0 c : Cutter} {left0 left : List ℕ} {rest0 rest : Option (List ℕ)} {held0 held : SinkState} {taken : List Sample}
     (m : Monitored head bank0 bank c0 c left0 left rest0 rest held0 held taken) where
-  module _ (ps : List Plant) (stands : StandsDue ps [] bank0) where
-    -- what was put, and a front of what comes next, is a front of the whole
-    cut-short : (rows : Rows) (held' : SinkState) (more : List Line) (tail : List Line) → rows_lines ps rows ≡ due_lines ps taken (length taken) ++ (more ++ tail)
-        → GainsFront (lines_text more) held held' → GainsFront (lines_text (rows_lines ps rows)) held0 held'
-    cut-short rows held' more tail is put =
-        let so_far = due_lines ps taken (length taken) in
-        let text : lines_text (rows_lines ps rows) ≡ (lines_text so_far ++ lines_text more) ++ lines_text tail =
-        ap lines_text is ∙ lines-append so_far (more ++ tail) ∙ ap (λ t. lines_text so_far ++ t) (lines-append more tail) ∙ sym (append_assoc (lines_text so_far) (lines_text more) (lines_text tail)) in
-        subst (λ t. GainsFront t held0 held') (sym text)
-        (front-before held0.held held'.held (lines_text so_far ++ lines_text more) (lines_text tail) (front-after held0.held held.held held'.held (lines_text so_far) (lines_text more) (m.puts ps stands) put))
+  -- the rows that the telemetry owed before the first sample
+  abbrev owed : List ℕ → Rows
+  owed r = rows_owed head c0 (left0 ++ r)
 
-    -- the lines put so far are a front of the whole
-    pub so-far : IfSome rest0 (λ r. GainsFront (lines_text (rows_lines ps (rows_owed head c0 (left0 ++ r)))) held0 held)
-    so-far = told-some rest0 rest (λ r r'. rows_owed head c0 (left0 ++ r) ≡ behind taken (rows_owed head c (left ++ r'))) (λ r. GainsFront (lines_text (rows_lines ps (rows_owed head c0 (left0 ++ r)))) held0 held)
-        (λ r r' e.
-        let longer = rows-longer ps taken (rows_owed head c (left ++ r')) in
-        let text = ap (λ rows. lines_text (rows_lines ps rows)) e ∙ ap lines_text longer.1 ∙ lines-append (due_lines ps taken (length taken)) longer.0 in
-        subst (λ t. GainsFront t held0 held) (sym text) (whole-front held0.held held.held (lines_text (due_lines ps taken (length taken))) (lines_text longer.0) (m.puts ps stands)))
-        m.owes
+  -- the lines put so far are a front of a whole
+  pub so-far : (ps : List Plant) → StandsNew ps bank0 → IfSome rest0 (λ r. GainsLinesFront (AreRows ps (owed r)) held0 held)
+  so-far ps new = told-some rest0 rest (λ r r'. owed r ≡ behind taken (rows_owed head c (left ++ r'))) (λ r. GainsLinesFront (AreRows ps (owed r)) held0 held)
+      (λ r r' e.
+      let rows = rows_owed head c (left ++ r') in
+      let on = goes-on ps taken m.choice (m.chosen ps new) rows in
+      let lines = rows_lines ps (behind taken rows) on.0 in
+      let text : lines_text lines ≡ lines_text (chosen_lines ps taken m.choice) ++ lines_text on.2 = ap lines_text on.3 ∙ lines-append (chosen_lines ps taken m.choice) on.2 in
+      subst (λ rows. GainsLinesFront (AreRows ps rows) held0 held) (sym e)
+      (lines, (on.0, on.1, refl), subst (λ t. GainsFront t held0 held) (sym text) (whole-front held0.held held.held (lines_text (chosen_lines ps taken m.choice)) (lines_text on.2) (m.puts ps new))))
+      m.owes
 
   module _ (c' : Cutter) (left' : List ℕ) (rest' : Option (List ℕ)) (s : Sample)
       (row : BothTold rest rest' (λ r r'. rows_owed head c (left ++ r) ≡ with_sample s (rows_owed head c' (left' ++ r')))) where
-    owes-more : BothTold rest0 rest' (λ r r'. rows_owed head c0 (left0 ++ r) ≡ behind (taken ++ s ∷ []) (rows_owed head c' (left' ++ r')))
-    owes-more = told-then rest0 rest rest' (λ r r'. rows_owed head c0 (left0 ++ r) ≡ behind taken (rows_owed head c (left ++ r'))) (λ r r'. rows_owed head c (left ++ r) ≡ with_sample s (rows_owed head c' (left' ++ r'))) (λ r r'. rows_owed head c0 (left0 ++ r) ≡ behind (taken ++ s ∷ []) (rows_owed head c' (left' ++ r')))
+    abbrev more : List Sample
+    more = taken ++ s ∷ []
+
+    owes-more : BothTold rest0 rest' (λ r r'. owed r ≡ behind more (rows_owed head c' (left' ++ r')))
+    owes-more = told-then rest0 rest rest' (λ r r'. owed r ≡ behind taken (rows_owed head c (left ++ r'))) (λ r r'. rows_owed head c (left ++ r) ≡ with_sample s (rows_owed head c' (left' ++ r'))) (λ r r'. owed r ≡ behind more (rows_owed head c' (left' ++ r')))
         (λ x y z e f. e ∙ ap (behind taken) f ∙ moved (rows_owed head c' (left' ++ z))) m.owes row
       where
-        moved : (rows : Rows) → behind taken (with_sample s rows) ≡ behind (taken ++ s ∷ []) rows
+        moved : (rows : Rows) → behind taken (with_sample s rows) ≡ behind more rows
         moved rows = ap (λ ss. let both : Rows = record { samples = ss; refusal = rows.refusal } in both) (sym (append_assoc taken (s ∷ []) rows.samples))
 
-    module _ (bank' : Bank) (answer : SampleAnswer) (held' : SinkState)
-        (stands' : StandsLonger s bank bank') (answer-is : RecordsSample s bank answer) where
-      -- the lines of all samples, with those of this one
-      more-lines : (ps : List Plant) → StandsDue ps [] bank0 → due_lines ps (taken ++ s ∷ []) (length (taken ++ s ∷ [])) ≡ due_lines ps taken (length taken) ++ sample_lines answer
-      more-lines ps stands =
-          let n : length (taken ++ s ∷ []) ≡ length taken + 1 = length-append taken (s ∷ []) in
-          ap (due_lines ps (taken ++ s ∷ [])) n ∙ due-lines-more ps taken s
-          ∙ ap (λ a. due_lines ps taken (length taken) ++ sample_lines a) (sym (answer-is ps taken (lives_before (due_choice sets_observer ps taken) (length ps) (length taken)) (m.stands ps stands)))
+    module _ (bank' : Bank) (answer : SampleAnswer) (held' : SinkState) (takes : TakesChosen s bank answer bank') where
+      -- what is chosen, with what is said of this sample
+      abbrev next : Choice
+      next = chosen_at (length taken) takes.0 m.choice
+
+      module _ (ps : List Plant) (new : StandsNew ps bank0) where
+        abbrev lives : List Bool
+        lives = lives_before m.choice (length ps) (length taken)
+
+        took : TakesBy as_run_chooses s takes.0 ps taken lives answer bank'
+        took = takes.1 ps taken lives (m.stands ps new)
+
+        chosen-more : IsChoice ps more next
+        chosen-more = longer-allowed ps taken m.choice as_run_chooses (m.chosen ps new) s takes.0 took.allowed
+
+        -- the lines of all samples, with those of this one
+        more-lines : chosen_lines ps more next ≡ chosen_lines ps taken m.choice ++ sample_lines answer
+        more-lines = longer-lines ps taken m.choice s takes.0 ∙ ap (λ a. chosen_lines ps taken m.choice ++ sample_lines a) (sym took.answer)
 
       -- one more sample was taken and its lines were put
       pub one-more : bank'.count ≡ bank.count + 1 → Gains (lines_text (sample_lines answer)) held held' → Monitored head bank0 bank' c0 c' left0 left' rest0 rest' held0 held' (taken ++ s ∷ [])
       one-more count put = record {
-        stands = λ ps stands.
-            let lives = lives_before (due_choice sets_observer ps taken) (length ps) (length taken) in
-            subst (λ lives. BankStands ps (taken ++ s ∷ []) lives bank')
-            (sym (ap (lives_before (due_choice sets_observer ps (taken ++ s ∷ [])) (length ps)) (length-append taken (s ∷ [])) ∙ due-lives-more ps taken s))
-            (stands' ps taken lives (m.stands ps stands));
+        choice = next;
+        stands = λ ps new. subst (λ lives. BankStands ps more lives bank') (sym (longer-lives ps taken m.choice s takes.0)) (took ps new).stands;
+        chosen = chosen-more;
         counts = count ∙ ap (λ n. n + 1) m.counts ∙ sym (length-append taken (s ∷ []));
-        puts = λ ps stands. appends_more held0.held held.held held'.held _ _ _ (m.puts ps stands) put (ap lines_text (more-lines ps stands) ∙ lines-append (due_lines ps taken (length taken)) (sample_lines answer));
+        puts = λ ps new. appends_more held0.held held.held held'.held _ _ _ (m.puts ps new) put (ap lines_text (more-lines ps new) ∙ lines-append (chosen_lines ps taken m.choice) (sample_lines answer));
         owes = owes-more;
       }
 
       -- a front of its lines was put
-      pub front-more : (ps : List Plant) → StandsDue ps [] bank0 → GainsFront (lines_text (sample_lines answer)) held held'
-          → IfSome rest0 (λ r. GainsFront (lines_text (rows_lines ps (rows_owed head c0 (left0 ++ r)))) held0 held')
-      front-more ps stands put = told-some rest0 rest' (λ r r'. rows_owed head c0 (left0 ++ r) ≡ behind (taken ++ s ∷ []) (rows_owed head c' (left' ++ r'))) (λ r. GainsFront (lines_text (rows_lines ps (rows_owed head c0 (left0 ++ r)))) held0 held')
+      pub front-more : (ps : List Plant) → StandsNew ps bank0 → GainsFront (lines_text (sample_lines answer)) held held' → IfSome rest0 (λ r. GainsLinesFront (AreRows ps (owed r)) held0 held')
+      front-more ps new put = told-some rest0 rest' (λ r r'. owed r ≡ behind more (rows_owed head c' (left' ++ r'))) (λ r. GainsLinesFront (AreRows ps (owed r)) held0 held')
           (λ r r' e.
-          let longer = rows-longer ps (taken ++ s ∷ []) (rows_owed head c' (left' ++ r')) in
-          cut-short ps stands (rows_owed head c0 (left0 ++ r)) held' (sample_lines answer) longer.0
-          (ap (rows_lines ps) e ∙ longer.1 ∙ ap (λ ls. ls ++ longer.0) (more-lines ps stands) ∙ append_assoc (due_lines ps taken (length taken)) (sample_lines answer) longer.0) put)
+          let rows = rows_owed head c' (left' ++ r') in
+          let on = goes-on ps more next (chosen-more ps new) rows in
+          let lines = rows_lines ps (behind more rows) on.0 in
+          let before = chosen_lines ps taken m.choice in
+          let here = sample_lines answer in
+          let text : lines_text lines ≡ (lines_text before ++ lines_text here) ++ lines_text on.2 =
+          ap lines_text on.3 ∙ lines-append (chosen_lines ps more next) on.2 ∙ ap (λ t. t ++ lines_text on.2) (ap lines_text (more-lines ps new) ∙ lines-append before here) in
+          subst (λ rows. GainsLinesFront (AreRows ps rows) held0 held') (sym e)
+          (
+            lines,
+            (on.0, on.1, refl),
+            subst (λ t. GainsFront t held0 held') (sym text) (front-before held0.held held'.held (lines_text before ++ lines_text here) (lines_text on.2)
+                (front-after held0.held held.held held'.held (lines_text before) (lines_text here) (m.puts ps new) put)),
+          ))
           owes-more
 
   -- a row was refused
   module _ (fault : TelemFault) (rest' : Option (List ℕ)) (told : BothTold rest rest' (λ r r'. rows_owed head c (left ++ r) ≡ refused_rows fault)) where
-    refused-is : BothTold rest0 rest' (λ r r'. rows_owed head c0 (left0 ++ r) ≡ behind taken (refused_rows fault))
-    refused-is = told-then rest0 rest rest' (λ r r'. rows_owed head c0 (left0 ++ r) ≡ behind taken (rows_owed head c (left ++ r'))) (λ r r'. rows_owed head c (left ++ r) ≡ refused_rows fault) (λ r r'. rows_owed head c0 (left0 ++ r) ≡ behind taken (refused_rows fault))
+    refused-is : BothTold rest0 rest' (λ r r'. owed r ≡ behind taken (refused_rows fault))
+    refused-is = told-then rest0 rest rest' (λ r r'. owed r ≡ behind taken (rows_owed head c (left ++ r'))) (λ r r'. rows_owed head c (left ++ r) ≡ refused_rows fault) (λ r r'. owed r ≡ behind taken (refused_rows fault))
         (λ x y z e f. e ∙ ap (behind taken) f) m.owes told
 
     pub refused-says : IfSome rest0 (λ r. (rows_owed head c0 (left0 ++ r)).refusal ≡ Some fault)
-    refused-says = told-some rest0 rest' (λ r r'. rows_owed head c0 (left0 ++ r) ≡ behind taken (refused_rows fault)) (λ r. (rows_owed head c0 (left0 ++ r)).refusal ≡ Some fault) (λ r r' e. ap (λ (rows : Rows). rows.refusal) e) refused-is
+    refused-says = told-some rest0 rest' (λ r r'. owed r ≡ behind taken (refused_rows fault)) (λ r. (owed r).refusal ≡ Some fault) (λ r r' e. ap (λ (rows : Rows). rows.refusal) e) refused-is
 
-    pub refused-puts : (ps : List Plant) → StandsDue ps [] bank0 → IfSome rest0 (λ r. Gains (lines_text (rows_lines ps (rows_owed head c0 (left0 ++ r)))) held0 held)
-    refused-puts ps stands = told-some rest0 rest' (λ r r'. rows_owed head c0 (left0 ++ r) ≡ behind taken (refused_rows fault)) (λ r. Gains (lines_text (rows_lines ps (rows_owed head c0 (left0 ++ r)))) held0 held)
+    pub refused-puts : (ps : List Plant) → StandsNew ps bank0 → IfSome rest0 (λ r. GainsLines (AreRows ps (rows_owed head c0 (left0 ++ r))) held0 held)
+    refused-puts ps new = told-some rest0 rest' (λ r r'. owed r ≡ behind taken (refused_rows fault)) (λ r. GainsLines (AreRows ps (owed r)) held0 held)
         (λ r r' e.
         let none = append-nil taken in
-        let text : rows_lines ps (rows_owed head c0 (left0 ++ r)) ≡ due_lines ps taken (length taken) =
-        ap (rows_lines ps) e ∙ append-nil (due_lines ps (taken ++ []) (length (taken ++ []))) ∙ ap (λ ss. due_lines ps ss (length ss)) none in
-        subst (λ ls. Gains (lines_text ls) held0 held) (sym text) (m.puts ps stands))
+        let rows : Rows = behind taken (refused_rows fault) in
+        let is : chosen_lines ps taken m.choice ≡ rows_lines ps rows m.choice =
+        sym (append-nil (chosen_lines ps rows.samples m.choice) ∙ ap (λ ss. chosen_lines ps ss m.choice) none) in
+        subst (λ rows. GainsLines (AreRows ps rows) held0 held) (sym e)
+        (chosen_lines ps taken m.choice, (m.choice, subst (λ ss. IsChoice ps ss m.choice) (sym none) (m.chosen ps new), is), m.puts ps new))
         refused-is
 
   -- the telemetry came to its end
   module _ (rest' : Option (List ℕ)) (told : BothTold rest rest' (λ r r'. rows_owed head c (left ++ r) ≡ no_rows)) where
-    all-is : BothTold rest0 rest' (λ r r'. rows_owed head c0 (left0 ++ r) ≡ behind taken no_rows)
-    all-is = told-then rest0 rest rest' (λ r r'. rows_owed head c0 (left0 ++ r) ≡ behind taken (rows_owed head c (left ++ r'))) (λ r r'. rows_owed head c (left ++ r) ≡ no_rows) (λ r r'. rows_owed head c0 (left0 ++ r) ≡ behind taken no_rows)
+    all-is : BothTold rest0 rest' (λ r r'. owed r ≡ behind taken no_rows)
+    all-is = told-then rest0 rest rest' (λ r r'. owed r ≡ behind taken (rows_owed head c (left ++ r'))) (λ r r'. rows_owed head c (left ++ r) ≡ no_rows) (λ r r'. owed r ≡ behind taken no_rows)
         (λ x y z e f. e ∙ ap (behind taken) f) m.owes told
 
     pub all-says : IfSome rest0 (λ r. ((rows_owed head c0 (left0 ++ r)).refusal ≡ None) × (bank.count ≡ length (rows_owed head c0 (left0 ++ r)).samples))
-    all-says = told-some rest0 rest' (λ r r'. rows_owed head c0 (left0 ++ r) ≡ behind taken no_rows) (λ r. ((rows_owed head c0 (left0 ++ r)).refusal ≡ None) × (bank.count ≡ length (rows_owed head c0 (left0 ++ r)).samples))
+    all-says = told-some rest0 rest' (λ r r'. owed r ≡ behind taken no_rows) (λ r. ((owed r).refusal ≡ None) × (bank.count ≡ length (owed r).samples))
         (λ r r' e. (ap (λ (rows : Rows). rows.refusal) e, m.counts ∙ sym (ap (λ (rows : Rows). length rows.samples) e ∙ ap length (append-nil taken)))) all-is
 
-    all-lines : (ps : List Plant) (rows : Rows) → rows ≡ behind taken no_rows → rows_lines ps rows ≡ due_lines ps taken (length taken) ++ (end bank.count ∷ [])
-    all-lines ps rows e = ap (rows_lines ps) e ∙ ap (λ ss. due_lines ps ss (length ss) ++ (end (length ss) ∷ [])) (append-nil taken) ∙ ap (λ n. due_lines ps taken (length taken) ++ (end n ∷ [])) (sym m.counts)
+    -- the lines of all samples, and the last
+    abbrev whole_lines : List Plant → List Line
+    whole_lines ps = chosen_lines ps taken m.choice ++ (end bank.count ∷ [])
 
-    pub all-puts : (held' : SinkState) (ps : List Plant) → StandsDue ps [] bank0 → Gains (lines_text (end bank.count ∷ [])) held held' → IfSome rest0 (λ r. Gains (lines_text (rows_lines ps (rows_owed head c0 (left0 ++ r)))) held0 held')
-    all-puts held' ps stands put = told-some rest0 rest' (λ r r'. rows_owed head c0 (left0 ++ r) ≡ behind taken no_rows) (λ r. Gains (lines_text (rows_lines ps (rows_owed head c0 (left0 ++ r)))) held0 held')
-        (λ r r' e. appends_more held0.held held.held held'.held _ _ _ (m.puts ps stands) put (ap lines_text (all-lines ps (rows_owed head c0 (left0 ++ r)) e) ∙ lines-append (due_lines ps taken (length taken)) (end bank.count ∷ []))) all-is
+    all-are : (ps : List Plant) → StandsNew ps bank0 → AreRows ps (behind taken no_rows) (whole_lines ps)
+    all-are ps new =
+        let none = append-nil taken in (
+          m.choice,
+          subst (λ ss. IsChoice ps ss m.choice) (sym none) (m.chosen ps new),
+          sym (ap (λ ss. chosen_lines ps ss m.choice ++ (end (length ss) ∷ [])) none ∙ ap (λ n. chosen_lines ps taken m.choice ++ (end n ∷ [])) (sym m.counts)),
+        )
 
-    pub all-front : (held' : SinkState) (ps : List Plant) → StandsDue ps [] bank0 → GainsFront (lines_text (end bank.count ∷ [])) held held' → IfSome rest0 (λ r. GainsFront (lines_text (rows_lines ps (rows_owed head c0 (left0 ++ r)))) held0 held')
-    all-front held' ps stands put = told-some rest0 rest' (λ r r'. rows_owed head c0 (left0 ++ r) ≡ behind taken no_rows) (λ r. GainsFront (lines_text (rows_lines ps (rows_owed head c0 (left0 ++ r)))) held0 held')
-        (λ r r' e.
-        let text : lines_text (rows_lines ps (rows_owed head c0 (left0 ++ r))) ≡ lines_text (due_lines ps taken (length taken)) ++ lines_text (end bank.count ∷ []) =
-        ap lines_text (all-lines ps (rows_owed head c0 (left0 ++ r)) e) ∙ lines-append (due_lines ps taken (length taken)) (end bank.count ∷ []) in
-        subst (λ t. GainsFront t held0 held') (sym text) (front-after held0.held held.held held'.held (lines_text (due_lines ps taken (length taken))) (lines_text (end bank.count ∷ [])) (m.puts ps stands) put)) all-is
+    whole-text : (ps : List Plant) → lines_text (whole_lines ps) ≡ lines_text (chosen_lines ps taken m.choice) ++ lines_text (end bank.count ∷ [])
+    whole-text ps = lines-append (chosen_lines ps taken m.choice) (end bank.count ∷ [])
 
--- a bank that begins stands for what is due before the first sample
-pub begun-due : (ps : List Plant) (b : Bank) → BankStands ps [] (replicate (length ps) true) b → StandsDue ps [] b
-unfolding lives_before
-begun-due ps b h = h
+    pub all-puts : (held' : SinkState) (ps : List Plant) → StandsNew ps bank0 → Gains (lines_text (end bank.count ∷ [])) held held' → IfSome rest0 (λ r. GainsLines (AreRows ps (rows_owed head c0 (left0 ++ r))) held0 held')
+    all-puts held' ps new put = told-some rest0 rest' (λ r r'. owed r ≡ behind taken no_rows) (λ r. GainsLines (AreRows ps (owed r)) held0 held')
+        (λ r r' e. subst (λ rows. GainsLines (AreRows ps rows) held0 held') (sym e)
+        (whole_lines ps, all-are ps new, appends_more held0.held held.held held'.held _ _ _ (m.puts ps new) put (whole-text ps))) all-is
+
+    pub all-front : (held' : SinkState) (ps : List Plant) → StandsNew ps bank0 → GainsFront (lines_text (end bank.count ∷ [])) held held' → IfSome rest0 (λ r. GainsLinesFront (AreRows ps (rows_owed head c0 (left0 ++ r))) held0 held')
+    all-front held' ps new put = told-some rest0 rest' (λ r r'. owed r ≡ behind taken no_rows) (λ r. GainsLinesFront (AreRows ps (owed r)) held0 held')
+        (λ r r' e. subst (λ rows. GainsLinesFront (AreRows ps rows) held0 held') (sym e)
+        (
+          whole_lines ps,
+          all-are ps new,
+          subst (λ t. GainsFront t held0 held') (sym (whole-text ps)) (front-after held0.held held.held held'.held (lines_text (chosen_lines ps taken m.choice)) (lines_text (end bank.count ∷ [])) (m.puts ps new) put),
+        )) all-is
 
 -- before the first row nothing was put
 pub nothing-yet : (head : Columns) (bank : Bank) (c : Cutter) (left : List ℕ) (rest : Option (List ℕ)) (held : SinkState) → bank.count ≡ 0 → Monitored head bank bank c c left left rest rest held held []
-unfolding samples_lines
+unfolding samples_lines lives_before
 nothing-yet head bank c left rest held none = record {
+  choice = λ _. [];
   stands = λ ps h. h;
+  chosen = λ ps h k l. absurd (omega (arith, l));
   counts = none;
   puts = λ ps h. appends_none held.held;
   owes = told-same rest _ (λ r. refl);
@@ -189,11 +227,11 @@ nothing-yet head bank c left rest held none = record {
 
 -- ---- what an ending says and puts
 
-pub put-cut : (f : PutFault) (e : RunFault) → e ≡ put_ending f → (rest : Option (List ℕ)) (held held' : SinkState) (lines : List ℕ → List Line) → IfSome rest (λ r. GainsFront (lines_text (lines r)) held held')
-    → IfSome rest (λ r. PutsReport (lines r) held (Err e) held')
-put-cut f e is rest held held' lines h = subst (λ e. IfSome rest (λ r. PutsReport (lines r) held (Err e) held')) (sym is) (by f)
+pub put-cut : (f : PutFault) (e : RunFault) → e ≡ put_ending f → (rest : Option (List ℕ)) (held held' : SinkState) (are : List ℕ → List Line → Type 0) → IfSome rest (λ r. GainsLinesFront (are r) held held')
+    → IfSome rest (λ r. PutsReport (are r) held (Err e) held')
+put-cut f e is rest held held' are h = subst (λ e. IfSome rest (λ r. PutsReport (are r) held (Err e) held')) (sym is) (by f)
   where
-    by : (f : PutFault) → IfSome rest (λ r. PutsReport (lines r) held (Err (put_ending f)) held')
+    by : (f : PutFault) → IfSome rest (λ r. PutsReport (are r) held (Err (put_ending f)) held')
     by put.Failed = h
     by put.Memory = h
 
@@ -210,11 +248,11 @@ module _ (f : StreamFault) (e : RunFault) (is : e ≡ ending_of f) (rest : Optio
       by stream.Read e = nothing rest
       by stream.Memory e = nothing rest
 
-  pub telemetry-puts : (held held' : SinkState) (lines : List ℕ → List Line) → ((fault : TelemFault) → f ≡ stream.Refused fault → IfSome rest (λ r. Gains (lines_text (lines r)) held held'))
-      → IfSome rest (λ r. GainsFront (lines_text (lines r)) held held') → IfSome rest (λ r. PutsReport (lines r) held (Err e) held')
-  telemetry-puts held held' lines refused front = subst (λ e. IfSome rest (λ r. PutsReport (lines r) held (Err e) held')) (sym is) (by f refl)
+  pub telemetry-puts : (held held' : SinkState) (are : List ℕ → List Line → Type 0) → ((fault : TelemFault) → f ≡ stream.Refused fault → IfSome rest (λ r. GainsLines (are r) held held'))
+      → IfSome rest (λ r. GainsLinesFront (are r) held held') → IfSome rest (λ r. PutsReport (are r) held (Err e) held')
+  telemetry-puts held held' are refused front = subst (λ e. IfSome rest (λ r. PutsReport (are r) held (Err e) held')) (sym is) (by f refl)
     where
-      by : (g : StreamFault) → f ≡ g → IfSome rest (λ r. PutsReport (lines r) held (Err (ending_of g)) held')
+      by : (g : StreamFault) → f ≡ g → IfSome rest (λ r. PutsReport (are r) held (Err (ending_of g)) held')
       by (stream.Refused fault) e = refused fault e
       by stream.Read e = front
       by stream.Memory e = front
@@ -241,11 +279,11 @@ module _ (rest : Option (List ℕ)) where
       nothing None = tt
       nothing (Some r) = tt
 
-  pub last-puts : (r : Result Done RunFault) (held held' : SinkState) (lines : List ℕ → List Line) → IfErr r IsPutEnding → OnOk r (IfSome rest (λ q. Gains (lines_text (lines q)) held held')) → OnErr r (IfSome rest (λ q. GainsFront (lines_text (lines q)) held held'))
-      → IfSome rest (λ q. PutsReport (lines q) held r held')
-  last-puts (Ok done) held held' lines ending all front = all
-  last-puts (Err (Model fault)) held held' lines ending all front = absurd ending
-  last-puts (Err (Telemetry fault)) held held' lines ending all front = absurd ending
-  last-puts (Err (Read slot)) held held' lines ending all front = absurd ending
-  last-puts (Err Write) held held' lines ending all front = front
-  last-puts (Err Memory) held held' lines ending all front = front
+  pub last-puts : (r : Result Done RunFault) (held held' : SinkState) (are : List ℕ → List Line → Type 0) → IfErr r IsPutEnding → OnOk r (IfSome rest (λ q. GainsLines (are q) held held')) → OnErr r (IfSome rest (λ q. GainsLinesFront (are q) held held'))
+      → IfSome rest (λ q. PutsReport (are q) held r held')
+  last-puts (Ok done) held held' are ending all front = all
+  last-puts (Err (Model fault)) held held' are ending all front = absurd ending
+  last-puts (Err (Telemetry fault)) held held' are ending all front = absurd ending
+  last-puts (Err (Read slot)) held held' are ending all front = absurd ending
+  last-puts (Err Write) held held' are ending all front = front
+  last-puts (Err Memory) held held' are ending all front = front

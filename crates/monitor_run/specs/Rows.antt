@@ -1,5 +1,5 @@
 -- The rows of a telemetry, and what a run over them says and puts.
-use Rattle.std.specs.Prelude.{◌≡◌, ℕ, ◌<◌, ◌≤◌, ◌×◌, true, List, [], ◌++◌, length, replicate, Some, None, is_none, Result, Ok, Err, IfErr, OnOk, OnErr}
+use Rattle.std.specs.Prelude.{◌≡◌, ℕ, ◌<◌, ◌≤◌, true, List, [], ◌++◌, length, replicate, Some, None, is_none, Result, Ok, Err, IfErr, OnOk, OnErr}
 use Rattle.std.specs.Io.KnownBytes.{IsAtEnd}
 use Rattle.plant_model.specs.Plant.{Plant, Sample}
 use Rattle.telem_csv.specs.Rows.{Rows}

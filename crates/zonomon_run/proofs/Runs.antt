@@ -1,5 +1,5 @@
 -- What a run answers, from how it ended.
-use Rattle.std.proofs.Common.{◌≡◌, ◌≢◌, ◌⊎◌, ◌+◌, ◌==◌, if◌then◌else◌, inl, inr, ◌×◌, List, [], ℕ, Bool, true, false, Option, Some, None, IfSome, IsSome, Result, Ok, Err, refl, sym, ap, subst, length, arith}
+use Rattle.std.proofs.Common.{◌≡◌, ◌≢◌, ◌⊎◌, ◌+◌, ◌==◌, if◌then◌else◌, inl, inr, List, [], ℕ, Bool, true, false, Option, Some, None, IfSome, IsSome, Result, Ok, Err, refl, sym, ap, subst, length, arith}
 use Rattle.std.specs.Prelude.{is_some}
 use Rattle.outside_io.specs.Causes.{Rose}
 use Rattle.outside_io.specs.Shelf.{ShelfState}

@@ -6,8 +6,16 @@ use Rattle.model_bank.specs.Seen.{model_seen}
 use Rattle.model_bank.proofs.Taking.{Took, took-none, took-next, took-more, took-all, refused-here, offers-room, told-more, told-few}
 use Rattle.model_bank.proofs.bank.take_all.Goals as goal
 
-pub loop-i-entry : goal.loop-i-entry
-loop-i-entry c = ([], took-none c.args.is_first c.args.last.now.items (sample_of c.args.sample.now) c.args.offered c.args.members.now)
+pub loop-i-init : goal.loop-i-init
+loop-i-init c =
+    let u = c.args.last.now.items in
+    let s = sample_of c.args.sample.now in
+    let old = c.args.members.now in
+    record {
+      few = omega (arith, ap length c.clear.ensures);
+      counts = c.requires.counts;
+      took = ([], subst (λ xs. Took c.args.is_first u s c.args.offered old 0 [] (map model_seen xs) old) (sym c.clear.ensures) (took-none c.args.is_first u s c.args.offered old));
+    }
 
 pub loop-i-preserved : goal.loop-i-preserved
 loop-i-preserved c =

@@ -1,4 +1,4 @@
-use Rattle.std.proofs.Common.{◌≤◌, ◌×◌, List, Option, length, map}
+use Rattle.std.proofs.Common.{◌≤◌, List, Option, length, map}
 use Rattle.std.specs.List.{All}
 use Rattle.farkas_check.specs.Certificate.{Certificate}
 use Rattle.plant_model.specs.Seen.{sample_of}

@@ -1,4 +1,4 @@
-use Rattle.std.proofs.Common.{ap, ◌∙◌, sym}
+use Rattle.std.proofs.Common.{refl, ap, ◌∙◌, sym}
 use Rattle.plant_model.specs.Seen.{sample_of}
 use Rattle.observer_step.specs.Seen.{was_widened}
 use Rattle.model_bank.specs.Seen.{model_seen}
@@ -34,4 +34,4 @@ pub returns-then-not-self-clause-taken : goal.returns-then-not-self-clause-taken
 returns-then-not-self-clause-taken g c =
     let seen = c.self.view_is in
     let dead = sym (ap (λ m. m.live) seen) ∙ c.if-not-self.true in
-    dead-takes c.args.is_first c.args.last.now.items (sample_of c.args.sample.now) c.args.self.now dead c.args.index c.args.claim _ seen
+    dead-takes c.args.is_first c.args.last.now.items (sample_of c.args.sample.now) c.args.self.now dead c.args.index c.args.claim c.args.self.now refl
