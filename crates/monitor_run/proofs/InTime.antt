@@ -11,7 +11,9 @@ use Rattle.model_file.specs.Bank.{Models}
 use Rattle.model_bank.specs.Bank.{plants_in, names_in}
 use Rattle.report_text.specs.Line.{Line, lines_text}
 use Rattle.report_rules.specs.Lines.{head_lines}
-use Rattle.report_rules.proofs.Later.{due-lines-same}
+use Rattle.report_rules.specs.Report.{Choice}
+use Rattle.report_rules.proofs.Longer.{allowed-first, lines-first}
+use Rattle.observer_step.specs.Answers.{as_run_chooses}
 use Rattle.outside_io.specs.declared.sink.PutFault.{PutFault}
 use Rattle.outside_io.specs.declared.sink.PutFault.TheVariants as put
 use Rattle.input_files.specs.Ended.{without_last, rows_ended, EndsNoRow, TakesNoRow, TakesRow}
@@ -25,9 +27,10 @@ use Rattle.input_files.proofs.Ended.{none-left}
 use Rattle.monitor_run.specs.declared.done.Done.{Done}
 use Rattle.monitor_run.specs.declared.done.RunFault.{RunFault}
 use Rattle.monitor_run.specs.declared.done.RunFault.TheVariants.{Model, Telemetry, Read, Write, Memory}
-use Rattle.monitor_run.specs.Rows.{due_lines, behind, ending_of, put_ending, IsPutEnding}
-use Rattle.monitor_run.specs.InTime.{rows_begun, report_begun, GainsAtLeast, ReadInTime, RowsInTime}
-use Rattle.monitor_run.proofs.Turns.{lines-append, lines-longer}
+use Rattle.monitor_run.specs.Outcome.{GainsLines}
+use Rattle.monitor_run.specs.Rows.{IsChoice, chosen_lines, behind, ending_of, put_ending, IsPutEnding}
+use Rattle.monitor_run.specs.InTime.{AreRowsBegun, IsReportBegun, GainsLinesAtLeast, ReadInTime, RowsInTime}
+use Rattle.monitor_run.proofs.Turns.{lines-append}
 
 -- ---- what the ended lines tell, as samples are taken
 
@@ -99,21 +102,21 @@ module _ {head : Columns} {e : Bool} {c0 c : Cutter} {unread0 unread : List ℕ}
 
 -- ---- the lines that were put
 
-front-lines : (ps : List Plant) (first more : List Sample) → (tail : List Line) × (due_lines ps (first ++ more) (length (first ++ more)) ≡ due_lines ps first (length first) ++ tail)
-front-lines ps first more =
-    let longer = lines-longer ps (first ++ more) (length first) (length more) in
-    (longer.0, ap (due_lines ps (first ++ more)) (length-append first more) ∙ longer.1 ∙ ap (λ ls. ls ++ longer.0) (due-lines-same ps first more (length first) (omega arith)))
-
--- the lines of the samples taken, and a front of more, are at least those of a front of the samples
-at-least : (ps : List Plant) (first taken : List Sample) (held0 held held' : SinkState) (next : List ℕ) → IsFrontOf first taken → Gains (lines_text (due_lines ps taken (length taken))) held0 held → GainsFront next held held'
-    → GainsAtLeast (lines_text (due_lines ps first (length first))) held0 held'
-at-least ps first taken held0 held held' next (more, is) put (n, within, then) =
-    let longer = front-lines ps first more in
-    let begun = lines_text (due_lines ps first (length first)) in
-    let all : lines_text (due_lines ps taken (length taken)) ≡ begun ++ lines_text longer.0 = ap (λ ss. lines_text (due_lines ps ss (length ss))) is ∙ ap lines_text longer.1 ∙ lines-append (due_lines ps first (length first)) longer.0 in (
-      lines_text longer.0 ++ take n next,
-      appends_more held0.held held.held held'.held (lines_text (due_lines ps taken (length taken))) (take n next) (begun ++ (lines_text longer.0 ++ take n next)) put then
-          (sym (append_assoc begun (lines_text longer.0) (take n next)) ∙ ap (λ t. t ++ take n next) (sym all)),
+-- the lines of the samples taken, and a front of more, are at least lines of a front of the samples
+at-least : (ps : List Plant) (rows : Rows) (taken : List Sample) (c : Choice) (held0 held held' : SinkState) (next : List ℕ) → IsFrontOf rows.samples taken → IsChoice ps taken c
+    → Gains (lines_text (chosen_lines ps taken c)) held0 held → GainsFront next held held' → GainsLinesAtLeast (AreRowsBegun ps rows) held0 held'
+at-least ps rows taken c held0 held held' next (more, is) chosen put (n, within, then) =
+    let first = rows.samples in
+    let rest = lines-first ps first more c in
+    let begun = lines_text (chosen_lines ps first c) in
+    let all : lines_text (chosen_lines ps taken c) ≡ begun ++ lines_text rest.0 = ap (λ ss. lines_text (chosen_lines ps ss c)) is ∙ ap lines_text rest.1 ∙ lines-append (chosen_lines ps first c) rest.0 in (
+      chosen_lines ps first c,
+      (c, allowed-first as_run_chooses ps first more c (subst (λ ss. IsChoice ps ss c) is chosen), refl),
+      (
+        lines_text rest.0 ++ take n next,
+        appends_more held0.held held.held held'.held (lines_text (chosen_lines ps taken c)) (take n next) (begun ++ (lines_text rest.0 ++ take n next)) put then
+            (sym (append_assoc begun (lines_text rest.0) (take n next)) ∙ ap (λ t. t ++ take n next) (sym all)),
+      ),
     )
 
 -- a piece is at most so long
@@ -138,16 +141,16 @@ some-same (Some r) P f = f r
 -- ---- endings of a run over the rows
 
 module _ (head : Columns) (c0 : Cutter) (left0 : List ℕ) (rest0 : Option (List ℕ)) (e0 : Bool) (held0 : SinkState) where
-  -- the lines due for the rows without the last k bytes
-  abbrev pub begun : List Plant → List ℕ → ℕ → List Line
-  begun ps r k = rows_begun ps (rows_ended head c0 (without_last k (left0 ++ r)))
+  -- lines of the rows without the last k bytes
+  abbrev pub begun : List Plant → List ℕ → ℕ → List Line → Type 0
+  begun ps r k = AreRowsBegun ps (rows_ended head c0 (without_last k (left0 ++ r)))
 
   abbrev pub RowsEnd : List Plant → Option (List ℕ) → Result Done RunFault → SinkState → Type 0
   RowsEnd ps rest' result held' = IfSome rest0 (λ r. IfSome rest' (λ r'. RowsInTime (begun ps r) e0 (length (left0 ++ r)) (length r') held0 result held'))
 
   module _ (e : Bool) (c : Cutter) (left : List ℕ) (rest : Option (List ℕ)) (held : SinkState) (taken : List Sample)
       (m : BothTold rest0 rest (λ r r'. InTime head e c0 c (left0 ++ r) (left ++ r') taken))
-      (ps : List Plant) (puts : Gains (lines_text (due_lines ps taken (length taken))) held0 held) where
+      (ps : List Plant) (choice : Choice) (chosen : IsChoice ps taken choice) (puts : Gains (lines_text (chosen_lines ps taken choice)) held0 held) where
     -- a put failed where no row had ended before the last byte taken
     pub put-in_time : (f : PutFault) (r : RunFault) → r ≡ put_ending f → (left' : List ℕ) (rest' : Option (List ℕ)) (held' : SinkState) (next : List ℕ) → length left' ≤ 4096 → GainsFront next held held'
         → BothTold rest rest' (λ r r'. EndsNoRow head c (left ++ r) (left' ++ r')) → RowsEnd ps rest' (Err r) held'
@@ -155,8 +158,8 @@ module _ (head : Columns) (c0 : Cutter) (left0 : List ℕ) (rest0 : Option (List
       where
         by : (f : PutFault) → RowsEnd ps rest' (Err (put_ending f)) held'
         by put.Failed = both-some rest0 rest' (λ x z. (k : ℕ) → length (left' ++ z) < k → k ≤ length (left0 ++ x) → IsFrontOf (rows_ended head c0 (without_last k (left0 ++ x))).samples taken)
-            (λ x z. length z + most_piece + 1 ≤ length (left0 ++ x) → GainsAtLeast (lines_text (begun ps x (length z + most_piece + 1))) held0 held')
-            (λ x z front-of within. at-least ps _ taken held0 held held' next (front-of (length z + most_piece + 1) (omega (arith, length-append left' z, short)) within) puts front)
+            (λ x z. length z + most_piece + 1 ≤ length (left0 ++ x) → GainsLinesAtLeast (begun ps x (length z + most_piece + 1)) held0 held')
+            (λ x z front-of within. at-least ps (rows_ended head c0 (without_last (length z + most_piece + 1) (left0 ++ x))) taken choice held0 held held' next (front-of (length z + most_piece + 1) (omega (arith, length-append left' z, short)) within) chosen puts front)
             (told-then rest0 rest rest' (λ x y. InTime head e c0 c (left0 ++ x) (left ++ y) taken) (λ y z. EndsNoRow head c (left ++ y) (left' ++ z))
             (λ x z. (k : ℕ) → length (left' ++ z) < k → k ≤ length (left0 ++ x) → IsFrontOf (rows_ended head c0 (without_last k (left0 ++ x))).samples taken)
             (λ x y z time none. before-next time (left' ++ z) none) m none)
@@ -167,13 +170,20 @@ module _ (head : Columns) (c0 : Cutter) (left0 : List ℕ) (rest0 : Option (List
         → (f ≡ stream.Read → e ≡ false) → (f ≡ stream.Read → left' ≡ []) → (f ≡ stream.Read → BothTold rest rest' (λ r r'. TakesNoRow head c (left ++ r) (left' ++ r'))) → RowsEnd ps rest' (Err r) held
     stream-in_time f r is left' rest' stays unended used none = subst (λ r. RowsEnd ps rest' (Err r) held) (sym is) (by f refl)
       where
+        lines-read : (rows : Rows) → rows.samples ≡ taken → GainsLines (AreRowsBegun ps rows) held0 held
+        lines-read rows is = (
+          chosen_lines ps rows.samples choice,
+          (choice, subst (λ ss. IsChoice ps ss choice) (sym is) chosen, refl),
+          subst (λ ss. Gains (lines_text (chosen_lines ps ss choice)) held0 held) (sym is) puts,
+        )
+
         read : (x y z : List ℕ) → e ≡ false → left' ≡ [] → InTime head e c0 c (left0 ++ x) (left ++ y) taken → TakesNoRow head c (left ++ y) (left' ++ z) → ReadInTime (begun ps x) e0 (length (left0 ++ x)) (length z) held0 held
         read x y z going none time row =
             let size : length (left' ++ z) ≡ length z = ap (λ l. length (l ++ z)) none in
             record {
               unended = stays going;
               later = omega (arith, size, row.later, time.later);
-              lines = subst (λ n. Gains (lines_text (begun ps x n)) held0 held) size (subst (λ ss. Gains (lines_text (due_lines ps ss (length ss))) held0 held) (sym (read-samples time going row)) puts);
+              lines = subst (λ n. GainsLines (begun ps x n) held0 held) size (lines-read (rows_ended head c0 (without_last (length (left' ++ z)) (left0 ++ x))) (read-samples time going row));
             }
 
         by : (g : StreamFault) → f ≡ g → RowsEnd ps rest' (Err (ending_of g)) held
@@ -196,26 +206,44 @@ module _ (head : Columns) (c0 : Cutter) (left0 : List ℕ) (rest0 : Option (List
 -- ---- the head in front of the rows
 
 module _ (ms : Models) (held0 held held' : SinkState) (put : Gains (lines_text (head_lines (names_in ms))) held0 held) (rows : ℕ → Rows) (e : Bool) (unread left : ℕ) where
-  pub behind-head-in_time : (r : Result Done RunFault) → RowsInTime (λ k. rows_begun (plants_in ms) (rows k)) e unread left held r held' → RowsInTime (λ k. report_begun ms (rows k)) e unread left held0 r held'
+  abbrev head_text : List ℕ
+  head_text = lines_text (head_lines (names_in ms))
+
+  abbrev behind_text : Rows → Choice → List ℕ
+  behind_text rows c = lines_text (chosen_lines (plants_in ms) rows.samples c)
+
+  head-and : (rows : Rows) (c : Choice) → lines_text (head_lines (names_in ms) ++ chosen_lines (plants_in ms) rows.samples c) ≡ head_text ++ behind_text rows c
+  head-and rows c = lines-append (head_lines (names_in ms)) (chosen_lines (plants_in ms) rows.samples c)
+
+  begun-all : (rows : Rows) → GainsLines (AreRowsBegun (plants_in ms) rows) held held' → GainsLines (IsReportBegun ms rows) held0 held'
+  begun-all rows (lines, (c, chosen, is), gained) = (
+    head_lines (names_in ms) ++ chosen_lines (plants_in ms) rows.samples c,
+    (c, chosen, refl),
+    appends_more held0.held held.held held'.held _ _ _ put (subst (λ ls. Gains (lines_text ls) held held') is gained) (head-and rows c),
+  )
+
+  begun-more : (rows : Rows) → GainsLinesAtLeast (AreRowsBegun (plants_in ms) rows) held held' → GainsLinesAtLeast (IsReportBegun ms rows) held0 held'
+  begun-more rows (lines, (c, chosen, is), (more, gained)) = (
+    head_lines (names_in ms) ++ chosen_lines (plants_in ms) rows.samples c,
+    (c, chosen, refl),
+    (
+      more,
+      appends_more held0.held held.held held'.held head_text (behind_text rows c ++ more) (lines_text (head_lines (names_in ms) ++ chosen_lines (plants_in ms) rows.samples c) ++ more) put
+          (subst (λ ls. Gains (lines_text ls ++ more) held held') is gained)
+          (ap (λ t. t ++ more) (head-and rows c) ∙ append_assoc head_text (behind_text rows c) more),
+    ),
+  )
+
+  pub behind-head-in_time : (r : Result Done RunFault) → RowsInTime (λ k. AreRowsBegun (plants_in ms) (rows k)) e unread left held r held' → RowsInTime (λ k. IsReportBegun ms (rows k)) e unread left held0 r held'
   behind-head-in_time (Ok done) h = tt
   behind-head-in_time (Err (Model fault)) h = tt
   behind-head-in_time (Err (Telemetry fault)) h = tt
-  behind-head-in_time (Err (Read slot)) h = record {
-    unended = h.unended;
-    later = h.later;
-    lines = appends_more held0.held held.held held'.held _ _ _ put h.lines (lines-append (head_lines (names_in ms)) (rows_begun (plants_in ms) (rows left)));
-  }
-  behind-head-in_time (Err Write) h = λ within.
-      let behind = h within in
-      let lines = rows_begun (plants_in ms) (rows (left + most_piece + 1)) in (
-        behind.0,
-        appends_more held0.held held.held held'.held (lines_text (head_lines (names_in ms))) (lines_text lines ++ behind.0) (lines_text (head_lines (names_in ms) ++ lines) ++ behind.0) put behind.1
-            (ap (λ t. t ++ behind.0) (lines-append (head_lines (names_in ms)) lines) ∙ append_assoc (lines_text (head_lines (names_in ms))) (lines_text lines) behind.0),
-      )
+  behind-head-in_time (Err (Read slot)) h = record { unended = h.unended; later = h.later; lines = begun-all (rows left) h.lines }
+  behind-head-in_time (Err Write) h = λ within. begun-more (rows (left + most_piece + 1)) (h within)
   behind-head-in_time (Err Memory) h = tt
 
 -- the head was put in part, and the piece that holds the header's line is at hand
-pub head-in_time : (f : PutFault) (r : RunFault) → r ≡ put_ending f → (lines : List ℕ → ℕ → List Line) (e : Bool) (left : List ℕ) (rest : Option (List ℕ)) (held held' : SinkState) → length left ≤ 4096
+pub head-in_time : (f : PutFault) (r : RunFault) → r ≡ put_ending f → (lines : List ℕ → ℕ → List Line → Type 0) (e : Bool) (left : List ℕ) (rest : Option (List ℕ)) (held held' : SinkState) → length left ≤ 4096
     → IfSome rest (λ q. IfSome rest (λ q'. RowsInTime (lines (left ++ q)) e (length (left ++ q)) (length q') held (Err r) held'))
 head-in_time f r is lines e left rest held held' short = subst (λ r. IfSome rest (λ q. IfSome rest (λ q'. RowsInTime (lines (left ++ q)) e (length (left ++ q)) (length q') held (Err r) held'))) (sym is) (by f)
   where

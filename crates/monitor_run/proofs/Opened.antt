@@ -1,5 +1,5 @@
 -- What the rows behind a header, and the bytes of both files, say of a run.
-use Rattle.std.proofs.Common.{◌≡◌, ℕ, List, [], ◌++◌, Option, Some, None, IfSome, Result, Ok, Err, IfErr, refl, sym, ap, ◌∙◌, subst, append_assoc}
+use Rattle.std.proofs.Common.{◌≡◌, ℕ, List, [], ◌++◌, length, is_none, Option, Some, None, IfSome, Result, Ok, Err, IfErr, refl, sym, ap, ◌∙◌, subst, append_assoc}
 use Rattle.outside_io.specs.Sink.{SinkState, Gains, GainsFront}
 use Rattle.outside_io.proofs.Grows.{appends_more, appends_none}
 use Rattle.outside_io.proofs.Fronts.{front-after, front-before, no-front}
@@ -11,20 +11,25 @@ use Rattle.model_file.specs.Bank.{Models}
 use Rattle.model_file.specs.ModelFile.{models_of}
 use Rattle.model_bank.specs.Bank.{plants_in, names_in}
 use Rattle.report_text.specs.Line.{Line, lines_text}
-use Rattle.report_rules.specs.Lines.{head_lines}
+use Rattle.report_rules.specs.Lines.{head_lines, last_lines}
+use Rattle.report_rules.specs.Report.{samples_lines, report, due_choice}
+use Rattle.report_rules.proofs.Chosen.{due-chosen}
+use Rattle.observer_step.specs.SetsAnswers.{sets_observer}
 use Rattle.monitor_run.specs.declared.done.Done.{Done}
 use Rattle.monitor_run.specs.declared.done.RunFault.{RunFault}
 use Rattle.monitor_run.specs.declared.done.RunFault.TheVariants.{Model, Telemetry, Read, Write, Memory}
 use Rattle.input_files.specs.declared.stream.StreamFault.{StreamFault}
 use Rattle.input_files.specs.declared.stream.StreamFault.TheVariants as stream
-use Rattle.input_files.specs.Stream.{BothTold}
-use Rattle.input_files.specs.Files.{Files, bad_header, monitored, with_telemetry, files_with, with_models, files_of, model_refusal, most_telemetry}
+use Rattle.input_files.specs.Stream.{BothTold, stream_fault}
+use Rattle.outside_io.specs.declared.shelf.GetFault.{GetFault}
+use Rattle.outside_io.specs.declared.shelf.GetFault.TheVariants as get
+use Rattle.input_files.specs.Files.{Files, bad_model, bad_header, monitored, with_telemetry, files_with, with_models, files_of, model_refusal, most_telemetry}
 use Rattle.input_files.specs.Told.{OnBytes}
 use Rattle.input_files.specs.declared.model.ModelEnding.{ModelEnding}
 use Rattle.input_files.specs.declared.model.ModelEnding.TheVariants as models
-use Rattle.monitor_run.specs.Reports.{report_of, report_of_rows}
-use Rattle.monitor_run.specs.Outcome.{SaysOfModel, SaysOfFiles, PutsReport, PutsNothing}
-use Rattle.monitor_run.specs.Rows.{rows_lines, SaysOfRows, ReadsRows, ending_of, model_ending}
+use Rattle.monitor_run.specs.Reports.{watch_of, IsReportOf, IsReportOfRows}
+use Rattle.monitor_run.specs.Outcome.{SaysOfModel, SaysOfFiles, GainsLines, GainsLinesFront, PutsReport, PutsNothing}
+use Rattle.monitor_run.specs.Rows.{AreRows, SaysOfRows, ReadsRows, ending_of, model_ending}
 use Rattle.input_files.specs.Judged.{JudgesModel}
 use Rattle.input_files.proofs.Models.{accepted-is}
 use Rattle.monitor_run.proofs.Turns.{told-some, lines-append}
@@ -39,20 +44,29 @@ of-some (Some x) P f = f x
 
 -- ---- the head, and the rows behind it
 
+-- the lines of a report are the head and lines behind it
+report-text : (ms : Models) (rows : Rows) (lines : List Line) → (is : AreRows (plants_in ms) rows lines)
+    → IsReportOfRows ms rows (head_lines (names_in ms) ++ lines) × (lines_text (head_lines (names_in ms) ++ lines) ≡ lines_text (head_lines (names_in ms)) ++ lines_text lines)
+report-text ms rows lines (c, chosen, is) = (
+  record { choice = c; allowed = chosen; is = ap (λ ls. head_lines (names_in ms) ++ ls) is ∙ sym (append_assoc (head_lines (names_in ms)) _ _) },
+  lines-append (head_lines (names_in ms)) lines,
+)
+
 module _ (ms : Models) (held0 held held' : SinkState) (put : Gains (lines_text (head_lines (names_in ms))) held0 held) where
   abbrev head : List Line
   head = head_lines (names_in ms)
 
-  whole : (rows : Rows) → lines_text (report_of_rows ms rows) ≡ lines_text head ++ lines_text (rows_lines (plants_in ms) rows)
-  whole rows = ap lines_text (append_assoc head _ _) ∙ lines-append head (rows_lines (plants_in ms) rows)
+  report-all : (rows : Rows) → GainsLines (AreRows (plants_in ms) rows) held held' → GainsLines (IsReportOfRows ms rows) held0 held'
+  report-all rows (lines, is, h) =
+      let report = report-text ms rows lines is in
+      (head ++ lines, report.0, appends_more held0.held held.held held'.held _ _ _ put h report.1)
 
-  report-all : (rows : Rows) → Gains (lines_text (rows_lines (plants_in ms) rows)) held held' → Gains (lines_text (report_of_rows ms rows)) held0 held'
-  report-all rows h = appends_more held0.held held.held held'.held _ _ _ put h (whole rows)
+  report-front : (rows : Rows) → GainsLinesFront (AreRows (plants_in ms) rows) held held' → GainsLinesFront (IsReportOfRows ms rows) held0 held'
+  report-front rows (lines, is, h) =
+      let report = report-text ms rows lines is in
+      (head ++ lines, report.0, subst (λ t. GainsFront t held0 held') (sym report.1) (front-after held0.held held.held held'.held (lines_text head) (lines_text lines) put h))
 
-  report-front : (rows : Rows) → GainsFront (lines_text (rows_lines (plants_in ms) rows)) held held' → GainsFront (lines_text (report_of_rows ms rows)) held0 held'
-  report-front rows h = subst (λ t. GainsFront t held0 held') (sym (whole rows)) (front-after held0.held held.held held'.held (lines_text head) (lines_text (rows_lines (plants_in ms) rows)) put h)
-
-  pub behind-head : (r : Result Done RunFault) (rows : Rows) → IfErr r ReadsRows → PutsReport (rows_lines (plants_in ms) rows) held r held' → PutsReport (report_of_rows ms rows) held0 r held'
+  pub behind-head : (r : Result Done RunFault) (rows : Rows) → IfErr r ReadsRows → PutsReport (AreRows (plants_in ms) rows) held r held' → PutsReport (IsReportOfRows ms rows) held0 r held'
   behind-head (Ok done) rows ending h = report-all rows h
   behind-head (Err (Model fault)) rows ending h = absurd ending
   behind-head (Err (Telemetry fault)) rows ending h = report-all rows h
@@ -60,12 +74,26 @@ module _ (ms : Models) (held0 held held' : SinkState) (put : Gains (lines_text (
   behind-head (Err Write) rows ending h = report-front rows h
   behind-head (Err Memory) rows ending h = report-front rows h
 
--- a front of the head, or all of it, is a front of the report
-pub head-front : (ms : Models) (held0 held : SinkState) (rows : Rows) → GainsFront (lines_text (head_lines (names_in ms))) held0 held → GainsFront (lines_text (report_of_rows ms rows)) held0 held
+-- there is a report of any rows: that with the certificates that are due
+some-report : (ms : Models) (rows : Rows) → (lines : List Line) × IsReportOfRows ms rows lines
+some-report ms rows =
+    let w = watch_of ms rows in
+    (report sets_observer w (due_choice sets_observer w.plants w.samples), due-chosen w)
+
+-- there is one for any files
+pub some-lines : (f : Files) → (lines : List Line) × IsReportOf f lines
+some-lines (bad_model fault) = ([], refl)
+some-lines (bad_header fault) = ([], refl)
+some-lines (monitored ms rows) = some-report ms rows
+
+-- a front of the head, or all of it, is a front of a report
+pub head-front : (ms : Models) (held0 held : SinkState) (rows : Rows) → GainsFront (lines_text (head_lines (names_in ms))) held0 held → GainsLinesFront (IsReportOfRows ms rows) held0 held
 head-front ms held0 held rows h =
     let head = head_lines (names_in ms) in
-    let text : lines_text (report_of_rows ms rows) ≡ lines_text head ++ lines_text (rows_lines (plants_in ms) rows) = ap lines_text (append_assoc head _ _) ∙ lines-append head (rows_lines (plants_in ms) rows) in
-    subst (λ t. GainsFront t held0 held) (sym text) (front-before held0.held held.held (lines_text head) (lines_text (rows_lines (plants_in ms) rows)) h)
+    let some = some-report ms rows in
+    let behind = samples_lines sets_observer (plants_in ms) rows.samples some.1.choice (length rows.samples) ++ last_lines (length rows.samples) (is_none rows.refusal) in
+    let text : lines_text some.0 ≡ lines_text head ++ lines_text behind = ap lines_text (some.1.is ∙ append_assoc head _ _) ∙ lines-append head behind in
+    (some.0, some.1, subst (λ t. GainsFront t held0 held) (sym text) (front-before held0.held held.held (lines_text head) (lines_text behind) h))
 
 -- ---- the telemetry, from its first byte
 
@@ -104,6 +132,17 @@ module _ (ms : Models) where
     pub with-refusal : (fault : TelemFault) → BothTold rest rest' (λ r r'. telemetry_owed ms.inputs ms.outputs (at_start most_telemetry) ([] ++ r) ≡ no_header fault) → P (bad_header fault) → IfSome file (λ t. P (with_telemetry ms (told t)))
     with-refusal fault header h = from-rest (told-some rest rest' (λ r r'. telemetry_owed ms.inputs ms.outputs (at_start most_telemetry) ([] ++ r) ≡ no_header fault) (λ t. P (with_telemetry ms (told t))) (λ r r' e. subst (λ t. P (with_telemetry ms t)) (sym (starts r ∙ e)) h) header)
 
+-- where the telemetry could not be opened, nothing was put
+pub unopened-puts : (ms : Models) (f : GetFault) (e : RunFault) → e ≡ ending_of (stream_fault f) → (file : Option (List ℕ)) (held : SinkState) → IfSome file (λ t. PutsReport (IsReportOf (files_with ms t)) held (Err e) held)
+unopened-puts ms f e is file held = of-some file _ (λ t. subst (λ e. PutsReport (IsReportOf (files_with ms t)) held (Err e) held) (sym is) (by t f))
+  where
+    none-put : (t : List ℕ) → GainsLinesFront (IsReportOf (files_with ms t)) held held
+    none-put t = let some = some-lines (files_with ms t) in (some.0, some.1, no-front held.held (lines_text some.0))
+
+    by : (t : List ℕ) (f : GetFault) → PutsReport (IsReportOf (files_with ms t)) held (Err (ending_of (stream_fault f))) held
+    by t get.Failed = none-put t
+    by t get.Memory = none-put t
+
 -- where no header came, nothing was put
 module _ (ms : Models) (f : StreamFault) (e : RunFault) (is : e ≡ ending_of f) (file rest rest' : Option (List ℕ)) (opened : rest ≡ file)
     (refused : (fault : TelemFault) → f ≡ stream.Refused fault → BothTold rest rest' (λ r r'. telemetry_owed ms.inputs ms.outputs (at_start most_telemetry) ([] ++ r) ≡ no_header fault)) where
@@ -115,13 +154,16 @@ module _ (ms : Models) (f : StreamFault) (e : RunFault) (is : e ≡ ending_of f)
       by stream.Read e = of-some file _ (λ t. tt)
       by stream.Memory e = of-some file _ (λ t. tt)
 
-  pub no-header-puts : (held : SinkState) → IfSome file (λ t. PutsReport (report_of (files_with ms t)) held (Err e) held)
-  no-header-puts held = subst (λ e. IfSome file (λ t. PutsReport (report_of (files_with ms t)) held (Err e) held)) (sym is) (by f refl)
+  pub no-header-puts : (held : SinkState) → IfSome file (λ t. PutsReport (IsReportOf (files_with ms t)) held (Err e) held)
+  no-header-puts held = subst (λ e. IfSome file (λ t. PutsReport (IsReportOf (files_with ms t)) held (Err e) held)) (sym is) (by f refl)
     where
-      by : (g : StreamFault) → f ≡ g → IfSome file (λ t. PutsReport (report_of (files_with ms t)) held (Err (ending_of g)) held)
-      by (stream.Refused fault) e = with-refusal ms (λ f. PutsReport (report_of f) held (Err (Telemetry fault)) held) file rest rest' opened fault (refused fault e) (appends_none held.held)
-      by stream.Read e = of-some file _ (λ t. no-front held.held (lines_text (report_of (files_with ms t))))
-      by stream.Memory e = of-some file _ (λ t. no-front held.held (lines_text (report_of (files_with ms t))))
+      none-put : (t : List ℕ) → GainsLinesFront (IsReportOf (files_with ms t)) held held
+      none-put t = let some = some-lines (files_with ms t) in (some.0, some.1, no-front held.held (lines_text some.0))
+
+      by : (g : StreamFault) → f ≡ g → IfSome file (λ t. PutsReport (IsReportOf (files_with ms t)) held (Err (ending_of g)) held)
+      by (stream.Refused fault) e = with-refusal ms (λ f. PutsReport (IsReportOf f) held (Err (Telemetry fault)) held) file rest rest' opened fault (refused fault e) ([], refl, appends_none held.held)
+      by stream.Read e = of-some file _ none-put
+      by stream.Memory e = of-some file _ none-put
 
 -- ---- both files
 
@@ -172,13 +214,16 @@ module _ (e : ModelEnding) (r : RunFault) (is : r ≡ model_ending e) where
       by models.Read = tt
       by models.Memory = tt
 
-  pub judged-puts : (held : SinkState) (lines : List Line) → PutsReport lines held (Err r) held
-  judged-puts held lines = subst (λ r. PutsReport lines held (Err r) held) (sym is) (by e)
+  pub judged-puts : (held : SinkState) (f : Files) → PutsReport (IsReportOf f) held (Err r) held
+  judged-puts held f = subst (λ r. PutsReport (IsReportOf f) held (Err r) held) (sym is) (by e)
     where
-      by : (e : ModelEnding) → PutsReport lines held (Err (model_ending e)) held
+      none-put : GainsLinesFront (IsReportOf f) held held
+      none-put = let some = some-lines f in (some.0, some.1, no-front held.held (lines_text some.0))
+
+      by : (e : ModelEnding) → PutsReport (IsReportOf f) held (Err (model_ending e)) held
       by (models.Refused fault) = refl
-      by models.Read = no-front held.held (lines_text lines)
-      by models.Memory = no-front held.held (lines_text lines)
+      by models.Read = none-put
+      by models.Memory = none-put
 
 pub on-both : (model telemetry' : Option (List ℕ)) (P : List ℕ → List ℕ → Type 0) → ((m t : List ℕ) → P m t) → OnBytes model telemetry' P
 on-both model telemetry' P f = of-some model _ (λ m. of-some telemetry' _ (λ t. f m t))

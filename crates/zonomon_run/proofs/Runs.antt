@@ -14,8 +14,8 @@ use Rattle.telem_csv.specs.declared.fault.TelemFault.{TelemFault}
 use Rattle.report_text.specs.Line.{Line, lines_text}
 use Rattle.report_rules.proofs.Hulls.{hulls-sound, exclusions-sound, estimate-sound}
 use Rattle.report_rules.proofs.Misses.{misses-told}
-use Rattle.report_rules.proofs.Chosen.{run-accepted, due-chosen, estimate-refutes}
-use Rattle.report_rules.specs.Report.{IsReport, report, due_choice}
+use Rattle.report_rules.proofs.Chosen.{run-accepted, estimate-refutes}
+use Rattle.report_rules.specs.Report.{IsReport}
 use Rattle.monitor_run.specs.declared.done.Done.{Done}
 use Rattle.monitor_run.specs.declared.done.RunFault.{RunFault}
 use Rattle.monitor_run.specs.declared.done.RunFault.TheVariants as run
@@ -27,6 +27,7 @@ use Rattle.monitor_run.specs.InTime.{PutsInTime, IsBegun}
 use Rattle.monitor_run.specs.Reports.{IsReportOf, IsReportOfRows, watch_of}
 use Rattle.monitor_run.specs.Outcome.{SaysOfModel, SaysOfFiles, PutsReport, GainsLinesFront, PutsNothing, AsksModelFirst, AsksInOrder, ReadsFailed}
 use Rattle.monitor_run.proofs.Begun.{not-asked}
+use Rattle.monitor_run.proofs.Opened.{some-lines}
 use Rattle.zonomon_run.specs.Words.{asked_by, monitor}
 use Rattle.zonomon_run.specs.Ending.{status_of, text_of, Tells}
 use Rattle.zonomon_run.specs.declared.ending.Ending.TheVariants.{ReadModel, ReadTelemetry}
@@ -80,14 +81,6 @@ accepted-not-refused (monitored ms rows) fault e h = cc
 
 -- ---- how a run ended
 
--- there is a report of each file, that with the certificates that are due
-some-report : (f : Files) → (lines : List Line) × IsReportOf f lines
-some-report (bad_model fault) = ([], refl)
-some-report (bad_header fault) = ([], refl)
-some-report (monitored ms rows) =
-    let w = watch_of ms rows in
-    (report sets_observer w (due_choice sets_observer w.plants w.samples), due-chosen w)
-
 puts-front : (r : Result Done RunFault) (before after : SinkState) (are : List Line → Type 0) → (lines : List Line) × are lines → PutsReport are before r after → GainsLinesFront are before after
 puts-front (Ok done) before after are some (lines, is, h) = (lines, is, all-front before.held after.held (lines_text lines) h)
 puts-front (Err (run.Model fault)) before after are (lines, is) h = (lines, is, subst (λ x. AppendsFront before.held x (lines_text lines)) (sym h) (no-front before.held (lines_text lines)))
@@ -100,7 +93,7 @@ pub all-front-of : (model telemetry : Option (List ℕ)) (before after : SinkSta
     → OnBytes model telemetry (λ m t. GainsReportFront before after (files_of m t))
 all-front-of None telemetry before after r h = tt
 all-front-of (Some m) None before after r h = tt
-all-front-of (Some m) (Some t) before after r h = puts-front r before after (IsReportOf (files_of m t)) (some-report (files_of m t)) h
+all-front-of (Some m) (Some t) before after r h = puts-front r before after (IsReportOf (files_of m t)) (some-lines (files_of m t)) h
 
 -- the slot that could not be read
 pub unread : (slot : ℕ) (model telemetry : List ℕ) (before after : Outside) → ReadsFailed model telemetry before.shelf after.shelf slot → Tells (text_of (ending_of (run.Read slot))) before.err after.err

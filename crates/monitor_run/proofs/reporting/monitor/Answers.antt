@@ -2,9 +2,10 @@ use Rattle.std.proofs.Common.{◌+◌, sym, subst, arith}
 use Rattle.std.proofs.lemmas.Result.{err_from_is_err_and}
 use Rattle.input_files.specs.Whole.{TakesAtMost, most_model, most_piece}
 use Rattle.monitor_run.proofs.Begun.{with-models-in_time, judged-in_time}
-use Rattle.monitor_run.specs.Reports.{report_of}
+use Rattle.monitor_run.specs.Reports.{IsReportOf}
 use Rattle.monitor_run.specs.Outcome.{SaysOfFiles, PutsReport}
-use Rattle.monitor_run.proofs.Opened.{with-models, accepted-says}
+use Rattle.input_files.specs.Files.{files_of}
+use Rattle.monitor_run.proofs.Opened.{with-models, accepted-says, judged-puts, on-both}
 use Rattle.monitor_run.proofs.reporting.monitor.Goals as goal
 
 pub returns-clause-says_model : goal.returns-clause-says_model
@@ -22,7 +23,7 @@ pub returns-clause-puts : goal.returns-clause-puts
 returns-clause-puts g c =
     let shelf = g.F.Shelf.state c.args.shelf.now in
     with-models c.in_ok-models.models (shelf.file c.args.model.now) (shelf.file c.args.telemetry.now) c.in_ok-models.ensures.read_all
-    (λ f. PutsReport (report_of f) (g.O.Sink.state c.args.out.now) c.monitor_models.result (g.O.Sink.state c.monitor_models.new.out))
+    (λ f. PutsReport (IsReportOf f) (g.O.Sink.state c.args.out.now) c.monitor_models.result (g.O.Sink.state c.monitor_models.new.out))
     (rw c.in_ok-models.ensures.others.files at c.monitor_models.ensures.puts)
 
 pub returns-clause-in_time : goal.returns-clause-in_time
@@ -44,3 +45,11 @@ returns-in_err-models-clause-in_time g c =
     let p = err_from_is_err_and c.from_residual.result c.from_residual.ensures.1 in
     rw p.1
     (λ _. judged-in_time c.in_err-models.field-0.0 p.0 p.2 (shelf.file c.args.model.now) (shelf.file c.args.telemetry.now) ((g.F.Shelf.state c.read_model.new.shelf).slot 1).rest (g.O.Sink.state c.args.out.now))
+
+pub returns-in_err-models-clause-puts : goal.returns-in_err-models-clause-puts
+returns-in_err-models-clause-puts g c =
+    let shelf = g.F.Shelf.state c.args.shelf.now in
+    let p = err_from_is_err_and c.from_residual.result c.from_residual.ensures.1 in
+    rw p.1
+    (on-both (shelf.file c.args.model.now) (shelf.file c.args.telemetry.now) _
+    (λ m t. judged-puts c.in_err-models.field-0.0 p.0 p.2 (g.O.Sink.state c.args.out.now) (files_of m t)))

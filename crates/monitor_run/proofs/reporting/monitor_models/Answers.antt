@@ -1,12 +1,13 @@
-use Rattle.std.proofs.Common.{◌++◌, ◌≤◌, arith, sym, ◌∙◌}
+use Rattle.std.proofs.Common.{◌++◌, ◌≤◌, arith, ap, sym, ◌∙◌}
 use Rattle.std.proofs.lemmas.Result.{err_from_is_err_and}
 use Rattle.telem_csv.specs.Cutter.{current, rows_owed}
 use Rattle.input_files.specs.Left.{left_of}
 use Rattle.input_files.specs.Files.{most_telemetry}
-use Rattle.monitor_run.specs.Reports.{report_of, report_of_rows}
+use Rattle.monitor_run.specs.Reports.{IsReportOf, IsReportOfRows}
 use Rattle.monitor_run.proofs.Begun.{behind-header, no-header-in_time, not-asked}
 use Rattle.monitor_run.specs.Outcome.{SaysOfFiles, PutsReport}
-use Rattle.monitor_run.proofs.Opened.{if-some, with-rows, no-header-says, no-header-puts, rows-say}
+use Rattle.monitor_run.specs.Rows.{ending_of}
+use Rattle.monitor_run.proofs.Opened.{if-some, with-rows, no-header-says, no-header-puts, unopened-puts, rows-say}
 use Rattle.monitor_run.proofs.reporting.monitor_models.Goals as goal
 
 pub put_report-requires-clause-short : goal.put_report-requires-clause-short
@@ -29,7 +30,7 @@ returns-clause-puts g c =
     let before = g.F.Shelf.state c.args.shelf.now in
     let opened = g.F.Shelf.state c.attach.new.self in
     let behind = g.F.Shelf.state c.find_header.new.shelf in
-    with-rows c.args.models (λ f. PutsReport (report_of f) (g.O.Sink.state c.args.out.now) c.put_report.result (g.O.Sink.state c.put_report.new.out))
+    with-rows c.args.models (λ f. PutsReport (IsReportOf f) (g.O.Sink.state c.args.out.now) c.put_report.result (g.O.Sink.state c.put_report.new.out))
     (before.file c.args.telemetry.now) (opened.slot 1).rest (behind.slot 1).rest c.in-Ok.ensures.here.begins
     (λ r. rows_owed c.in_ok-head.head c.find_header.new.stream.cutter (left_of c.find_header.new.stream ++ r))
     (rw (c.new-stream.ensures.cutter, c.new-stream.ensures.left, c.inputs.ensures.value, c.outputs.ensures.value) at c.in_ok-head.ensures.header)
@@ -64,7 +65,7 @@ returns-clause-in_time g c = λ _.
     let after = g.F.Shelf.state c.put_report.new.shelf in
     behind-header c.args.models (g.O.Sink.state c.args.out.now) (g.O.Sink.state c.put_report.new.out) c.in_ok-head.head c.find_header.new.stream.is_ended c.find_header.new.stream.cutter (left_of c.find_header.new.stream)
     (before.file c.args.telemetry.now) (opened.slot 1).rest (behind.slot 1).rest (after.slot 1).rest c.in-Ok.ensures.here.begins c.put_report.result
-    (λ r. report_of_rows c.args.models (rows_owed c.in_ok-head.head c.find_header.new.stream.cutter (left_of c.find_header.new.stream ++ r)))
+    (λ r. IsReportOfRows c.args.models (rows_owed c.in_ok-head.head c.find_header.new.stream.cutter (left_of c.find_header.new.stream ++ r)))
     (rw (c.new-stream.ensures.cutter, c.new-stream.ensures.left, c.inputs.ensures.value, c.outputs.ensures.value) at c.in_ok-head.ensures.takes)
     c.put_report.ensures.in_time c.put_report.ensures.puts
 
@@ -82,3 +83,7 @@ returns-in_err-head-clause-in_time g c =
 pub returns-in-Err-clause-in_time : goal.returns-in-Err-clause-in_time
 returns-in-Err-clause-in_time g c = λ attached.
     absurd (not-asked ((g.F.Shelf.state c.args.shelf.now).slot 1).asked c.requires (g.met.F.Shelf.attached_was_asked c.args.shelf.now 1 (sym c.in-Err.ensures.here.not_attached ∙ attached)))
+
+pub returns-in-Err-clause-puts : goal.returns-in-Err-clause-puts
+returns-in-Err-clause-puts g c =
+    unopened-puts c.args.models c.in-Err.fault c.into.result (c.into.ensures ∙ ap ending_of c.from.ensures) ((g.F.Shelf.state c.args.shelf.now).file c.args.telemetry.now) (g.O.Sink.state c.args.out.now)
