@@ -5,13 +5,11 @@ use Rattle.std.proofs.lemmas.Bool.Decides.{nat_tests}
 use Rattle.std.proofs.lemmas.List.{length-replicate, length-map, take_all, append_assoc, get_or_append_left, get_or-append_right, get_or-replicate}
 use Rattle.std.proofs.lemmas.List.Elements.{All-map}
 use Rattle.std.proofs.lemmas.List.FromFn.{length-map-range_with_len, get_or-map-range_with_len, map-range_with_len_more, fill_by_all}
-use Rattle.std.specs.List.{refill}
 use Rattle.set_rules.specs.Symbols.{diagonal}
 use Rattle.set_rules.specs.Columns.{at, tabulate}
 use Rattle.set_rules.specs.Reduce.{places}
 use Rattle.set_rules.specs.Rows.{Row, no_row, row_at, widened_by}
 use Rattle.fixed_mat.specs.Rows.{Table, IsRow, IsTable, kept_at, lost_at, condensed_row, condensed_rows}
-use Rattle.fixed_mat.proofs.Columns.{refill_same}
 
 IsRow-widened : (w by : ℕ) (r : Row) → IsRow w r → IsRow (w + by) (widened_by by r)
 IsRow-widened w by r h =
@@ -21,17 +19,15 @@ IsRow-widened w by r h =
     record { wide = omega arith; right_small = h.right_small }
 
 -- a table whose rows were widened one after another
-pub IsTable-widened : (w by i : ℕ) (rows lent made : List Row) → (let t : Table = record { width = w; rows = rows } in IsTable t) → w + by ≤ 128 → lent ≡ rows
-    → length lent ≤ i → made ≡ map (widened_by by) (take i lent) ++ drop i lent
-    → let t : Table = record { width = w + by; rows = refill (length rows) rows made } in IsTable t
-IsTable-widened w by i rows lent made h room lends end e =
+pub IsTable-widened : (w by i : ℕ) (rows made : List Row) → (let t : Table = record { width = w; rows = rows } in IsTable t) → w + by ≤ 128
+    → length rows ≤ i → made ≡ map (widened_by by) (take i rows) ++ drop i rows
+    → let t : Table = record { width = w + by; rows = made } in IsTable t
+IsTable-widened w by i rows made h room end e =
     let all : made ≡ map (widened_by by) rows =
-    e ∙ (λ ι. map (widened_by by) (take_all i lent end ι) ++ drop_of_length-le lent end ι) ∙ append-nil (map (widened_by by) lent) ∙ ap (map (widened_by by)) lends in
-    let long : length made ≡ length rows = ap length all ∙ length-map rows (widened_by by) in
-    let is : refill (length rows) rows made ≡ map (widened_by by) rows = refill_same rows made long ∙ all in
+    e ∙ (λ ι. map (widened_by by) (take_all i rows end ι) ++ drop_of_length-le rows end ι) ∙ append-nil (map (widened_by by) rows) in
     let few = h.few in
     let same = length-map rows (widened_by by) in
-    subst (λ rs. let t : Table = record { width = w + by; rows = rs } in IsTable t) (sym is) (record {
+    subst (λ rs. let t : Table = record { width = w + by; rows = rs } in IsTable t) (sym all) (record {
       few = omega arith;
       narrow = room;
       each = All-map (IsRow (w + by)) (widened_by by) rows (λ k d l. IsRow-widened w by (get_or rows k d) (h.each k d l));

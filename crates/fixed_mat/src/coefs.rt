@@ -97,16 +97,17 @@ impl Coefs {
         Ok(())
     }
 
-    /// The same coefficients once more.
-    pub fn copy(&self) -> Self
-        ensures { result ≡ self.now }
+    /// Puts the coefficients of another row in the place of all of these, each written once.
+    pub fn set_to(&mut self, other: &Coefs)
+        ensures { self.new ≡ other.now }
     {
-        let mut items = ArrayVec::new();
-        items.try_extend_from_slice(&self.items).unwrap();
-        Coefs {
-            items,
-            sum: self.sum,
-        }
+        let common = self.items.len().min(other.items.len());
+        self.items.truncate(common);
+        self.items.copy_from_slice(&other.items[..common]);
+        self.items
+            .try_extend_from_slice(&other.items[common..])
+            .unwrap();
+        self.sum = other.sum;
     }
 
     /// Appends zeros.

@@ -12,6 +12,7 @@ mod mat;
 mod products;
 mod raws;
 mod reading;
+mod ring;
 mod round;
 mod rows;
 mod whole;

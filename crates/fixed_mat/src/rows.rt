@@ -7,64 +7,17 @@ ghost use Rattle.set_rules.specs.Reduce.{places};
 ghost use Rattle.set_rules.specs.Rows.{row_at, widened_by};
 ghost use Rattle.set_rules.specs.Farkas.{coefficient};
 ghost use Rattle.set_rules.specs.Products.{row_with};
-ghost use Rattle.fixed_mat.specs.Rows.{marked, condensed_row, condensed_rows};
+ghost use Rattle.fixed_mat.specs.Rows.{marked, condensed_rows};
 
 use crate::coefs::Coefs;
-use arrayvec::ArrayVec;
+use crate::ring::RowRing;
 use std::marker::Model;
-
-/// A row: its coefficients, and its right side, in nano-units.
-#[derive(Drop)]
-struct KeptRow {
-    a: Coefs,
-    b: i128,
-}
-
-impl Model for KeptRow {
-    ghost use Rattle.set_rules.specs.Rows.{Row};
-
-    ghost Value = { Row };
-
-    ghost view = { λ r. record { coefficients = r.a; right = r.b } };
-}
-
-impl Default for KeptRow {
-    fn default() -> Self {
-        KeptRow {
-            a: Coefs::new(),
-            b: 0,
-        }
-    }
-}
-
-impl KeptRow {
-    /// Adds zero coefficients.
-    fn widen(&mut self, by: usize)
-        requires { length self.old.coefficients + by ≤ most_columns }
-        ensures { self.new ≡ widened_by by self.old }
-    {
-        self.a.widen(by);
-    }
-
-    /// Keeps the coefficients at the marked places, and appends `more` of which the one at `place` is the sum of the magnitudes of the others.
-    fn condense(&mut self, keep: &[bool], more: usize, place: usize)
-        requires marks { length self.old.coefficients ≤ length keep.now }
-        requires place { place < more }
-        requires room { length (places (marked keep.now) (length self.old.coefficients)) + more ≤ most_columns }
-        ensures { self.new ≡ condensed_row (marked keep.now) more place self.old }
-    {
-        let lost = self.a.retain(keep);
-        self.a.widen(place);
-        self.a.push(lost as i128).unwrap();
-        self.a.widen(more - place - 1);
-    }
-}
 
 /// At most six rows of one width, which is at most 128, oldest first.
 /// In each the magnitudes of the coefficients add up to at most `ROW`, and the right side is within it.
 #[derive(Drop)]
 pub struct Rows {
-    rows: ArrayVec<KeptRow, 6>,
+    rows: RowRing,
     width: usize,
 }
 
@@ -73,9 +26,9 @@ impl Model for Rows {
 
     ghost Value = { Table };
 
-    ghost view = { λ t. record { width = t.width; rows = t.rows.items } };
+    ghost view = { λ t. record { width = t.width; rows = t.rows } };
 
-    ghost invariant = { λ t. IsTable (record { width = t.width; rows = t.rows.items }) };
+    ghost invariant = { λ t. IsTable (record { width = t.width; rows = t.rows }) };
 }
 
 impl Rows {
@@ -86,7 +39,7 @@ impl Rows {
         ensures width { result.width ≡ width }
     {
         Rows {
-            rows: ArrayVec::new(),
+            rows: RowRing::new(),
             width,
         }
     }
@@ -120,8 +73,7 @@ impl Rows {
         ensures value { result.now ≡ (row_at self.now.rows r).coefficients }
         ensures wide { length result.now ≡ self.now.width }
     {
-        let row = &self.rows[r];
-        &row.a
+        self.rows.coefficients(r)
     }
 
     /// Coefficient `t` of row `r`.
@@ -149,8 +101,7 @@ impl Rows {
         ensures value { result ≡ (row_at self.now.rows r).right }
         ensures within { unsigned_abs result ≤ row_limit }
     {
-        let row = &self.rows[r];
-        row.b
+        self.rows.right(r)
     }
 
     /// Keeps a row as the newest.
@@ -161,7 +112,7 @@ impl Rows {
         ensures rows { self.new.rows ≡ self.old.rows ++ row_with a.now b ∷ [] }
         ensures width { self.new.width ≡ self.old.width }
     {
-        self.rows.push(KeptRow { a: a.copy(), b });
+        self.rows.push(a, b);
     }
 
     /// Adds zero coefficients to each row.
@@ -170,8 +121,8 @@ impl Rows {
         ensures rows { self.new.rows ≡ map (widened_by by) self.old.rows }
         ensures width { self.new.width ≡ self.old.width + by }
     {
-        for row in self.rows.iter_mut() {
-            row.widen(by);
+        for r in 0..self.rows.len() {
+            self.rows.widen(r, by);
         }
         self.width += by;
     }
@@ -182,7 +133,7 @@ impl Rows {
         ensures rows { self.new.rows ≡ drop 1 self.old.rows }
         ensures width { self.new.width ≡ self.old.width }
     {
-        let _oldest = self.rows.remove(0);
+        self.rows.drop_first();
     }
 
     /// Keeps in each row the coefficients at the `count` marked places, in their order. Then come zeros for so many states, and one
@@ -196,7 +147,7 @@ impl Rows {
     {
         let rows = self.rows.len();
         for r in 0..rows {
-            self.rows[r].condense(keep, states + rows, states + r);
+            self.rows.condense(r, keep, states + rows, states + r);
         }
         self.width = count + states + rows;
     }

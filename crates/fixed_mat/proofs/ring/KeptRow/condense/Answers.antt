@@ -6,7 +6,7 @@ use mir.Syntax.{w128}
 use Rattle.fixed_mat.specs.Rows.{marked, condensed_row}
 use Rattle.fixed_mat.proofs.Bits.{ok_unless}
 use Rattle.fixed_mat.proofs.Wider.{condensed}
-use Rattle.fixed_mat.proofs.rows.KeptRow.condense.Goals as goal
+use Rattle.fixed_mat.proofs.ring.KeptRow.condense.Goals as goal
 
 pub unwrap-requires : goal.unwrap-requires
 unwrap-requires c =
