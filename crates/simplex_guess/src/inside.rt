@@ -1,8 +1,5 @@
 //! A point that meets all rows. Where there is one, no multipliers pass.
 
-ghost use Rattle.std.specs.Prelude.{◌≡◌, ◌≤◌, ◌<◌};
-ghost use Rattle.set_rules.specs.Limits.{most_columns};
-
 use crate::own::Own;
 use crate::part::Part;
 use crate::scale::Scales;
@@ -14,32 +11,34 @@ use fixed_mat::Rows;
 /// How often a point is brought to the rows and back: mostly once is enough.
 const ROUNDS: usize = 16;
 
-/// Whether a point was found that meets all rows: 0, or one to which alternating projections (Cheney and Goldstein 1959)
-/// lead from there.
+/// Whether a point was found that meets all rows: 0, or one to which alternating projections (Cheney and Goldstein
+/// 1959) lead from there.
 pub(crate) fn has_point(rows: &Rows, scales: &Scales) -> bool {
     let own = Own::of(rows);
     own.reaches(rows) || leads_inside(rows, scales, &own)
 }
 
-/// Goes by least squares to where all rows hold, and from there back to symbols from -1 to 1, in turns. It stands alone,
-/// so that who has no need of it does not pay for the room.
+/// Goes by least squares to where all rows hold, and from there back to symbols from -1 to 1, in turns. It stands
+/// alone, so that who has no need of it does not pay for the room.
 #[inline(never)]
 fn leads_inside(rows: &Rows, scales: &Scales, own: &Own) -> bool {
-    let strips = Strips::of(rows, scales, own);
+    let mut strips = Strips::everywhere(rows.width());
+    strips.take(rows, scales, own);
     let mut point = Point::origin(&strips.own());
     let triangle = point.triangle(&strips);
+    let mut left = strips.right();
     for _ in 0..ROUNDS {
-        let left = point.left(&strips);
+        point.go(&strips, &triangle.solved(&point.lacking(&left)));
+        left = point.left(&strips);
         if strips.reach(&left) {
             return true;
         }
-        point.go(&strips, &triangle.solved(&point.lacking(&left)));
     }
     false
 }
 
-/// The symbols that rows share, and what the rows' own symbols are to take of the right sides: they count as one symbol
-/// with a quarter of their reach, so that the others move first, and stop short of their end by an eighth.
+/// The symbols that rows share, and what each row's own symbols are to take of its right side: they count as one
+/// symbol with a quarter of their reach, so that the others move first, and stop short of their end by an eighth.
 #[derive(Clone, Copy, Debug)]
 struct Point {
     symbols: [Part; 128],

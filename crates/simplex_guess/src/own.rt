@@ -1,12 +1,12 @@
 //! What each row has to itself.
 
-ghost use Rattle.std.specs.Prelude.{◌≡◌, ◌≤◌, ◌<◌, length, IfSome};
+ghost use Rattle.std.specs.Prelude.{◌≤◌, ◌<◌, length, IfSome};
 ghost use Rattle.set_rules.specs.Limits.{row_limit, most_columns};
 
 use fixed_mat::Rows;
 
-/// The symbols that are no row's own, and how far the others go: those of one row alone, as that of its noise mostly is,
-/// reach each number up to the sum of their magnitudes there.
+/// The symbols that are no row's own, and how far the others go: those of one row alone, as that of its noise mostly
+/// is, reach each number up to the sum of their magnitudes there.
 #[derive(Clone, Copy, Debug)]
 pub(crate) struct Own {
     is_shared: [bool; 128],

@@ -33,7 +33,8 @@ pub fn propose(rows: &Rows, pivots: &mut Pivots) -> Multipliers
     fitted(rows, &scales, pivots)
 }
 
-/// Those that the simplex method leads to. It stands alone, so that who has no need of it does not pay for its columns.
+/// Those that the simplex method leads to. It stands alone, so that who has no need of it does not pay for its
+/// columns.
 #[inline(never)]
 fn fitted(rows: &Rows, scales: &Scales, pivots: &mut Pivots) -> Multipliers
     requires room { pivots.old.done ≤ 2 ^ 63 }

@@ -65,8 +65,8 @@ impl Search {
         &self.ray
     }
 
-    /// Whether the sum is beyond what the right sides come to under the multipliers, and by more than a sixteenth: then
-    /// no rounding makes them pass.
+    /// Whether the sum is beyond what the right sides come to under the multipliers, and by more than a sixteenth:
+    /// then no rounding makes them pass.
     pub(crate) fn is_hopeless(&self, right: &Vector) -> bool {
         let reach = self.ray.times(right).size();
         u128::from(self.sum()) * 16 * FINENESS > u128::from(reach) * 17

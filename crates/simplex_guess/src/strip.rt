@@ -1,6 +1,6 @@
 //! The rows over the symbols that they share: strips, in which a point has to be.
 
-ghost use Rattle.std.specs.Prelude.{◌≡◌, ◌≤◌, ◌<◌, ◌^◌, ◌*◌, length, unsigned_abs};
+ghost use Rattle.std.specs.Prelude.{◌≤◌, ◌<◌, length};
 ghost use Rattle.set_rules.specs.Limits.{most_columns};
 
 use crate::fixed::Fixed;
@@ -73,16 +73,22 @@ pub(crate) struct Strips {
 }
 
 impl Strips {
-    pub(crate) fn of(rows: &Rows, scales: &Scales, own: &Own) -> Strips {
-        let mut strips = [Strip::everywhere(); 6];
-        for (r, strip) in strips.iter_mut().enumerate() {
+    /// Those of rows of this width, before they are taken.
+    pub(crate) fn everywhere(width: usize) -> Strips
+        requires { width ≤ most_columns }
+    {
+        Strips {
+            rows: [Strip::everywhere(); 6],
+            width,
+        }
+    }
+
+    /// Takes the rows, where they are, since a copy of all is not small.
+    pub(crate) fn take(&mut self, rows: &Rows, scales: &Scales, own: &Own) {
+        for (r, strip) in self.rows.iter_mut().enumerate() {
             if r < rows.count() {
                 strip.take(rows, scales, own, r);
             }
-        }
-        Strips {
-            rows: strips,
-            width: rows.width(),
         }
     }
 
@@ -91,6 +97,15 @@ impl Strips {
         ensures { result ≤ most_columns }
     {
         self.width
+    }
+
+    /// The right sides.
+    pub(crate) fn right(&self) -> Vector {
+        let mut right = Vector::zero();
+        for (entry, strip) in right.entries.iter_mut().zip(self.rows.iter()) {
+            *entry = strip.right;
+        }
+        right
     }
 
     /// What the rows' own symbols reach.

@@ -1,6 +1,6 @@
 //! The least way by which rows get what they lack.
 
-ghost use Rattle.std.specs.Prelude.{◌≡◌, ◌≤◌, ◌<◌};
+ghost use Rattle.std.specs.Prelude.{◌<◌};
 
 use crate::fixed::Fixed;
 use crate::strip::Strips;
@@ -9,8 +9,8 @@ use crate::vector::Vector;
 /// The least pivot, in units: less is what rounding makes.
 const LEAST: i128 = 64;
 
-/// The products of the rows with each other as a triangle of factors below ones, with pivots: Cholesky's factors without
-/// roots (Benoit 1924).
+/// The products of the rows with each other as a triangle of factors below ones, with pivots: Cholesky's factors
+/// without roots (Benoit 1924).
 #[derive(Clone, Copy, Debug)]
 pub(crate) struct Triangle {
     rows: [Vector; 6],

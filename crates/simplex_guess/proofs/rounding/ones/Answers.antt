@@ -1,4 +1,4 @@
-use Rattle.std.proofs.Common.{◌≤◌, ◌≡◌, length, take, replicate, pos, unsigned_abs, arith}
+use Rattle.std.proofs.Common.{◌≤◌, take, replicate, pos, unsigned_abs, arith}
 use Rattle.std.proofs.lemmas.List.{length-take-le}
 use Rattle.std.proofs.lemmas.List.Elements.{All-take, All-replicate}
 use Rattle.simplex_guess.proofs.Lists.{taken}
