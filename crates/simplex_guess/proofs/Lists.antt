@@ -1,5 +1,5 @@
 -- Lists of small numbers are taken as multipliers.
-use Rattle.std.proofs.Common.{◌≡◌, ℕ, suc, ◌≤◌, List, [], ◌∷◌, length, Bool, true, ◌&&◌, nat_le, nat_lt, if◌then◌else◌, Option, Some, None, option_map, IsSome, ℤ, unsigned_abs, refl, sym, ap, ◌∙◌, arith}
+use Rattle.std.proofs.Common.{◌≡◌, ℕ, suc, ◌≤◌, List, [], ◌∷◌, length, Bool, true, ◌&&◌, nat_le, nat_lt, if◌then◌else◌, Option, Some, None, option_map, IsSome, ℤ, unsigned_abs, refl, ap, ◌∙◌, arith}
 use Rattle.std.proofs.lemmas.Bool.Decides.{nat_tests}
 use Rattle.std.specs.List.{All}
 use Rattle.farkas_check.specs.Certificate.{list_of}

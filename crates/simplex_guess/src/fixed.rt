@@ -1,6 +1,6 @@
 //! Numbers in fixed point.
 
-ghost use Rattle.std.specs.Prelude.{◌≡◌, ◌≤◌, ◌<◌, ◌^◌, ◌*◌, unsigned_abs};
+ghost use Rattle.std.specs.Prelude.{◌≡◌, ◌≤◌, ◌<◌, ◌^◌, ◌*◌, unsigned_abs, pos, ◌<ℤ◌};
 
 /// How many units 1 is: `2^40`.
 const ONE: i128 = 1_099_511_627_776;
@@ -68,6 +68,30 @@ impl Fixed {
 
     pub(crate) fn times(self, other: Fixed) -> Fixed {
         Fixed::of_product(self.product(other))
+    }
+
+    /// One of so many equal parts, rounded towards zero.
+    pub(crate) fn parted(self, parts: i128) -> Fixed
+        requires { pos 0 <ℤ parts }
+    {
+        Fixed::of(i128::from(self.units) / parts)
+    }
+
+    /// This, or so many units where it is less.
+    pub(crate) fn at_least(self, units: i128) -> Fixed {
+        Fixed::of(i128::from(self.units).max(units))
+    }
+
+    /// The nearest number that is no farther from 0 than the limit.
+    pub(crate) fn within(self, limit: Fixed) -> Fixed {
+        if self.size() <= limit.size() {
+            return self;
+        }
+        if self.is_negative() == limit.is_negative() {
+            limit
+        } else {
+            limit.negated()
+        }
     }
 
     /// The quotient, rounded towards zero; 0 where the divisor is 0.

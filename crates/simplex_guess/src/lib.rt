@@ -4,10 +4,15 @@
 
 mod column;
 mod fixed;
+mod inside;
+mod own;
+mod part;
 mod proposal;
 mod rounding;
 mod scale;
 mod search;
+mod strip;
+mod triangle;
 mod vector;
 
 pub use proposal::{Pivots, propose};

@@ -34,6 +34,16 @@ pub(crate) fn rounded(rows: &Rows, ray: &Vector) -> Multipliers
     finest
 }
 
+/// 1 for each of `count` rows.
+pub(crate) fn ones(count: usize) -> Multipliers
+    requires some { 1 ≤ count }
+    requires few { count ≤ 6 }
+    ensures { length (list_of result) ≡ count }
+{
+    let ones = [1; 6];
+    Multipliers::of(&ones[..count]).unwrap()
+}
+
 /// The first `count` entries, enlarged or shrunk alike so that the greatest is `greatest`, and rounded.
 fn multipliers(ray: &Vector, count: usize, greatest: u64) -> Multipliers
     requires some { 1 ≤ count }

@@ -4,6 +4,7 @@ ghost use Rattle.std.specs.Prelude.{◌≡◌, ◌≤◌, ◌<◌, length, unsig
 ghost use Rattle.set_rules.specs.Limits.{row_limit, most_columns};
 
 use crate::fixed::Fixed;
+use crate::part::Part;
 use crate::vector::Vector;
 use fixed_mat::Rows;
 
@@ -30,6 +31,13 @@ impl Scale {
         requires { unsigned_abs number ≤ row_limit }
     {
         Fixed::of((number * 1_099_511_627_776) >> self.halvings)
+    }
+
+    /// The number from -1 to 1 that a coefficient of the row becomes.
+    fn part(self, number: i128) -> Part
+        requires { unsigned_abs number ≤ row_limit }
+    {
+        Part::of((number * 1_099_511_627_776) >> self.halvings)
     }
 
     /// A number of the row times `2^13`, for right sides that are small beside the row's sum.
@@ -63,6 +71,22 @@ impl Scales {
         }
     }
 
+    /// A coefficient of row `r`.
+    pub(crate) fn part(&self, r: usize, number: i128) -> Part
+        requires row { r < 6 }
+        requires small { unsigned_abs number ≤ row_limit }
+    {
+        self.rows[r].part(number)
+    }
+
+    /// A number of row `r`.
+    pub(crate) fn scaled(&self, r: usize, number: i128) -> Fixed
+        requires row { r < 6 }
+        requires small { unsigned_abs number ≤ row_limit }
+    {
+        self.rows[r].scaled(number)
+    }
+
     /// The coefficients of a symbol.
     pub(crate) fn column(&self, rows: &Rows, t: usize) -> Vector
         requires { t < rows.now.width }
@@ -78,13 +102,19 @@ impl Scales {
 
     /// The right sides, all enlarged alike, so that the greatest magnitude is 1; all 0 where none shows.
     pub(crate) fn right_sides(&self, rows: &Rows) -> Vector {
+        let right = self.fine_right_sides(rows);
+        right.over(Fixed::of(i128::from(right.most())))
+    }
+
+    /// The right sides times `2^13`.
+    pub(crate) fn fine_right_sides(&self, rows: &Rows) -> Vector {
         let mut right = Vector::zero();
         for (r, entry) in right.entries.iter_mut().enumerate() {
             if r < rows.count() {
                 *entry = self.rows[r].finely_scaled(rows.rhs(r));
             }
         }
-        right.over(Fixed::of(i128::from(right.most())))
+        right
     }
 
     /// Multipliers of the scaled rows, brought to the rows themselves and enlarged or shrunk alike.

@@ -12,6 +12,9 @@ use fixed_mat::Rows;
 /// The least slope, in units, that is followed: less is what rounding makes.
 const SLACK: u64 = 16;
 
+/// How many times the right sides are enlarged beside the coefficients.
+const FINENESS: u128 = 8_192;
+
 /// A way in which the multipliers can go: they keep their right side, and 0 in the symbols that rest elsewhere.
 #[derive(Clone, Copy, Debug)]
 struct Direction {
@@ -60,6 +63,18 @@ impl Search {
     /// The multipliers.
     pub(crate) fn ray(&self) -> &Vector {
         &self.ray
+    }
+
+    /// Whether the sum is beyond what the right sides come to under the multipliers, and by more than a sixteenth:
+    /// then no rounding makes them pass.
+    pub(crate) fn is_hopeless(&self, right: &Vector) -> bool {
+        let reach = self.ray.times(right).size();
+        u128::from(self.sum()) * 16 * FINENESS > u128::from(reach) * 17
+    }
+
+    /// The sum of the magnitudes, in units.
+    fn sum(&self) -> u64 {
+        self.columns.iter().fold(0, |sum: u64, column| sum.saturating_add(column.left.size()))
     }
 
     /// Makes the sum less for as long as a direction does, by at most 200 pivots; tells how many there were.

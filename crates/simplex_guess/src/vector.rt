@@ -1,5 +1,7 @@
 //! A number for each row.
 
+ghost use Rattle.std.specs.Prelude.{◌<◌};
+
 use crate::fixed::Fixed;
 
 /// A number for each of six rows; 0 at those that there are not.
@@ -26,6 +28,20 @@ impl Vector {
         Vector { entries }
     }
 
+    /// The number at row `r`.
+    pub(crate) fn at(&self, r: usize) -> Fixed
+        requires { r < 6 }
+    {
+        self.entries[r]
+    }
+
+    /// Puts the number at row `r`.
+    pub(crate) fn put(&mut self, r: usize, number: Fixed)
+        requires { r < 6 }
+    {
+        self.entries[r] = number;
+    }
+
     pub(crate) fn negated(&self) -> Vector {
         let mut entries = self.entries;
         for entry in entries.iter_mut() {
@@ -42,6 +58,14 @@ impl Vector {
         Vector { entries }
     }
 
+    pub(crate) fn minus(&self, other: &Vector) -> Vector {
+        let mut entries = self.entries;
+        for (entry, less) in entries.iter_mut().zip(other.entries.iter()) {
+            *entry = entry.minus(*less);
+        }
+        Vector { entries }
+    }
+
     /// The sum of the products of the entries.
     pub(crate) fn times(&self, other: &Vector) -> Fixed {
         let mut sum: i128 = 0;
@@ -49,6 +73,15 @@ impl Vector {
             sum += self.entries[r].product(other.entries[r]);
         }
         Fixed::of_product(sum)
+    }
+
+    /// Each entry over that of the other; 0 where that is 0.
+    pub(crate) fn divided(&self, divisors: &Vector) -> Vector {
+        let mut entries = self.entries;
+        for (entry, divisor) in entries.iter_mut().zip(divisors.entries.iter()) {
+            *entry = entry.over(*divisor);
+        }
+        Vector { entries }
     }
 
     pub(crate) fn over(&self, divisor: Fixed) -> Vector {

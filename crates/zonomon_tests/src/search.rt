@@ -305,3 +305,34 @@ fn known_lists_are_found(rt: HostRuntime) -> Result<(), Fail> {
     }
     Ok(())
 }
+
+/// Three rows of two states each, that go round in three, with a noise of 0.1 for each.
+fn ring_of(rights: &[i128; 3]) -> Result<Rows, Fail> {
+    let mut rows = Rows::new(6);
+    for (r, right) in rights.iter().enumerate() {
+        let mut a = [0; 6];
+        a[r] = ONE;
+        a[(r + 1) % 3] = -ONE;
+        a[r + 3] = NOISE;
+        push_row(&mut rows, &row_of(&a)?, *right)?;
+    }
+    Ok(rows)
+}
+
+/// Where a point meets all rows, by the noises alone or by the states too, no pivot is made.
+#[test]
+fn rows_that_a_point_meets_need_no_pivot(rt: HostRuntime) -> Result<(), Fail> {
+    for rights in [
+        [NOISE, 0, -NOISE / 2],
+        [ONE, -ONE / 2, -ONE / 2],
+        [2 * ONE, -2 * ONE, NOISE],
+    ] {
+        let rows = ring_of(&rights)?;
+        assert!(rt; rows.count() > 0);
+        let mut pivots = Pivots { done: 7 };
+        let proposal = propose(&rows, &mut pivots);
+        assert!(rt; pivots.done == 7);
+        assert!(rt; !passes(&rows, proposal.list()));
+    }
+    Ok(())
+}
