@@ -248,15 +248,17 @@ fn certificate(due: Option<u32>, rows: &Rows, is_new: bool) -> Option<Cert>
 }
 
 /// What the search proposes, where it refutes the rows. It is asked where one of them is new: an image and a reduction
-/// change no right side and make no magnitude less, so that what refuted nothing before refutes nothing after them.
+/// change no right side and make no magnitude less, so that what refuted nothing before refutes nothing after them. Nor
+/// is a list tested to which no pivot led: it is that of one row, which is no candidate, or a point meets all rows.
 fn proposed(rows: &Rows, is_new: bool) -> Option<Cert>
     ensures { is_justified_of None (passes_of rows.now.width rows.now.rows) (option_map certificate_of result) ≡ true }
 {
     if !is_new || rows.count() == 0 {
         return None;
     }
-    let multipliers = propose(rows, &mut Pivots { done: 0 });
-    if passes(rows, multipliers.list()) {
+    let mut pivots = Pivots { done: 0 };
+    let multipliers = propose(rows, &mut pivots);
+    if pivots.done > 0 && passes(rows, multipliers.list()) {
         return Some(Cert::Rows(multipliers));
     }
     None
