@@ -1,5 +1,5 @@
 -- What the code makes of one model, from the clauses of its parts.
-use Rattle.std.proofs.Common.{◌≡◌, ℕ, ◌≤◌, ◌^◌, ℤ, nat_le, unsigned_abs, arith, List, [], ◌∷◌, ◌++◌, Option, None, Some, IsSome, is_none, option_map, Result, Ok, Err, IfOk, IfErr, if◌then◌else◌, Bool, true, false, not, ◌&&◌, ◌||◌, refl, sym, ap, ◌∙◌, subst}
+use Rattle.std.proofs.Common.{◌≡◌, ℕ, ◌≤◌, ◌^◌, ℤ, nat_le, unsigned_abs, arith, List, [], ◌∷◌, ◌++◌, Option, None, Some, is_none, option_map, Result, Ok, Err, IfOk, IfErr, if◌then◌else◌, Bool, true, false, not, ◌&&◌, ◌||◌, refl, sym, ap, ◌∙◌, subst}
 use Rattle.std.specs.List.{list_all}
 use Rattle.std.proofs.lemmas.Bool.Decides.{nat_tests}
 use Rattle.farkas_check.specs.Certificate.{Certificate, certificate_of}

@@ -1,14 +1,14 @@
 -- Later samples change nothing of what is said of earlier ones.
-use Rattle.std.proofs.Common.{◌≡◌, ℕ, zero, suc, ◌+◌, ◌<◌, ℤ, Bool, not, ◌&&◌, ◌||◌, is_none, List, [], ◌∷◌, ◌++◌, length, Option, None, option_map, if◌then◌else◌, refl, ap, arith}
+use Rattle.std.proofs.Common.{◌≡◌, ℕ, ◌+◌, ◌<◌, ℤ, Bool, not, ◌&&◌, ◌||◌, is_none, List, [], ◌∷◌, ◌++◌, length, Option, if◌then◌else◌, refl}
 use Rattle.set_rules.specs.Zono.{Zono}
 use Rattle.farkas_check.specs.Certificate.{Certificate}
 use Rattle.isolate_core.specs.Verdict.{verdict_of, possible_models}
 use Rattle.plant_model.specs.Plant.{Plant, Sample}
 use Rattle.observer_step.specs.Predicted.{predicted_outs, hulls}
-use Rattle.observer_step.specs.Answers.{Answer, Rule, certificate_by, certificate_at, is_allowed, allows_at, answer_with}
+use Rattle.observer_step.specs.Answers.{Answer, Rule, is_allowed, allows_at, answer_with}
 use Rattle.observer_step.specs.SetsAnswers.{sets_observer}
 use Rattle.observer_step.proofs.Later.{sample-same, predicted-same, corrected-same, widened-same, due-same, refutes-same, candidate-same}
-use Rattle.model_bank.specs.Answers.{answer_if, answers_from, live_after, certificates_at, all_allowed, sample_answer}
+use Rattle.model_bank.specs.Answers.{answer_if, answers_from, live_after, all_allowed, sample_answer}
 
 module _ (samples more : List Sample) where
   abbrev all : List Sample

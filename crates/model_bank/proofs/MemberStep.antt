@@ -6,7 +6,7 @@ use Rattle.plant_model.specs.Plant.{Plant, Sample, no_sample, sample_at}
 use Rattle.farkas_check.specs.Certificate.{Certificate}
 use Rattle.observer_step.specs.Predicted.{predicted_outs, due}
 use Rattle.observer_step.specs.Offers.{offers_output}
-use Rattle.observer_step.specs.Sets.{Sets, first_sets, predict_sets, correct_sets, correct_sets_if, predicted_sets, corrected_sets, sets_widened, either_leaves}
+use Rattle.observer_step.specs.Sets.{predict_sets, correct_sets, correct_sets_if, predicted_sets, corrected_sets, sets_widened, either_leaves}
 use Rattle.observer_step.specs.Answers.{answer_with, due_at, Rule, allows_at}
 use Rattle.observer_step.specs.SetsAnswers.{sets_observer, is_allowed_of_sets}
 use Rattle.observer_step.proofs.SetsHold.{later-sets, sets-first}

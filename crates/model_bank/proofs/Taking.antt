@@ -196,11 +196,10 @@ module _ (is_first : Bool) (u : List ℤ) (s : Sample) (offered : Option (Bor (L
               let claims = map (option_map certificate_of) offers.now in
               let many : length claims ≡ length offers.now = length-map offers.now (option_map certificate_of) in
               let offer : get_or offers.now i None ≡ e.why.offered = cc in
-              let one : get_or claims i None ≡ option_map certificate_of e.why.offered = get_or-map (option_map certificate_of) offers.now i None None room ∙ ap (option_map certificate_of) offer in
-              (
+              let one : get_or claims i None ≡ option_map certificate_of e.why.offered = get_or-map (option_map certificate_of) offers.now i None None room ∙ ap (option_map certificate_of) offer in (
                 all,
                 λ own. sym (take-append-drop i claims) ∙ ap (λ xs. take i claims ++ xs) (drop_more claims i None (omega arith))
-                ∙ (λ j. sym are j ++ one j ∷ drop (i + 1) claims),
+                    ∙ (λ j. sym are j ++ one j ∷ drop (i + 1) claims),
               )
 
 -- the items of a Vec once a list is written back

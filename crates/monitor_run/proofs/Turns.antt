@@ -145,8 +145,7 @@ module _ {head : Columns} {bank0 bank : Bank} {c0 c : Cutter} {left0 left : List
           let here = sample_lines answer in
           let text : lines_text lines ≡ (lines_text before ++ lines_text here) ++ lines_text on.2 =
           ap lines_text on.3 ∙ lines-append (chosen_lines ps more next) on.2 ∙ ap (λ t. t ++ lines_text on.2) (ap lines_text (more-lines ps new) ∙ lines-append before here) in
-          subst (λ rows. GainsLinesFront (AreRows ps rows) held0 held') (sym e)
-          (
+          subst (λ rows. GainsLinesFront (AreRows ps rows) held0 held') (sym e) (
             lines,
             (on.0, on.1, refl),
             subst (λ t. GainsFront t held0 held') (sym text) (front-before held0.held held'.held (lines_text before ++ lines_text here) (lines_text on.2)
@@ -206,8 +205,7 @@ module _ {head : Columns} {bank0 bank : Bank} {c0 c : Cutter} {left0 left : List
 
     pub all-front : (held' : SinkState) (ps : List Plant) → StandsNew ps bank0 → GainsFront (lines_text (end bank.count ∷ [])) held held' → IfSome rest0 (λ r. GainsLinesFront (AreRows ps (rows_owed head c0 (left0 ++ r))) held0 held')
     all-front held' ps new put = told-some rest0 rest' (λ r r'. owed r ≡ behind taken no_rows) (λ r. GainsLinesFront (AreRows ps (owed r)) held0 held')
-        (λ r r' e. subst (λ rows. GainsLinesFront (AreRows ps rows) held0 held') (sym e)
-        (
+        (λ r r' e. subst (λ rows. GainsLinesFront (AreRows ps rows) held0 held') (sym e) (
           whole_lines ps,
           all-are ps new,
           subst (λ t. GainsFront t held0 held') (sym (whole-text ps)) (front-after held0.held held.held held'.held (lines_text (chosen_lines ps taken m.choice)) (lines_text (end bank.count ∷ [])) (m.puts ps new) put),

@@ -7,7 +7,7 @@ use Rattle.farkas_check.specs.Multipliers.{are_multipliers}
 use Rattle.plant_model.specs.Plant.{Plant, Sample, no_sample, sample_at}
 use Rattle.observer_step.specs.Predicted.{due}
 use Rattle.observer_step.specs.Answers.{Rule, due_at, certificate_at, allows_at}
-use Rattle.observer_step.specs.Sets.{Sets, either_leaves, correct_sets, predicted_sets, corrected_sets, sets_widened}
+use Rattle.observer_step.specs.Sets.{either_leaves, correct_sets, predicted_sets, corrected_sets, sets_widened}
 use Rattle.observer_step.specs.SetsAnswers.{sets_observer, refutes_kept, candidate_of, if_multipliers, ChosenIsJustified}
 use Rattle.observer_step.proofs.SetsHold.{later-sets}
 use Rattle.observer_step.proofs.Chosen.{chosen-justified}

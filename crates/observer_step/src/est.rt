@@ -266,7 +266,10 @@ fn proposed(rows: &Rows, is_new: bool) -> Option<Cert>
 
 /// Whether the sample has a reading, and so a row that is new. Only time rests on it.
 fn has_reading(sample: &Sample) -> bool {
-    sample.y.iter().any(|reading| !matches!(reading, Reading::Missing))
+    sample
+        .y
+        .iter()
+        .any(|reading| !matches!(reading, Reading::Missing))
 }
 
 /// Takes the images of both sets; whether neither leaves the range. Where one does, the sets are not to be used.

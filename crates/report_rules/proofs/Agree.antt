@@ -1,21 +1,13 @@
 -- Two justified reports agree as far as their texts do.
-use Rattle.std.proofs.Common.{◌≡◌, ◌⊎◌, inl, inr, ℕ, ◌<◌, ◌≤◌, nat_lt, Bool, true, false, List, [], ◌∷◌, ◌++◌, length, map, take, if◌then◌else◌, refl, sym, ap, ◌∙◌, arith, length-append}
-use Rattle.std.proofs.lemmas.Bool.Decides.{nat_tests}
-use Rattle.std.proofs.lemmas.List.{append-nil, length-map, take_at}
-use Rattle.plant_model.specs.Plant.{Plant, Sample}
+use Rattle.std.proofs.Common.{◌≡◌, ◌⊎◌, inl, inr, ℕ, List, [], ◌∷◌, ◌++◌, length, take, refl, sym, ap, ◌∙◌, arith, length-append}
+use Rattle.std.proofs.lemmas.List.{append-nil, take_at}
 use Rattle.observer_step.specs.Answers.{Observer, any_justified}
-use Rattle.observer_step.specs.SetsAnswers.{sets_observer}
-use Rattle.model_bank.specs.Answers.{certificates_at, all_allowed}
 use Rattle.report_text.specs.Line.{Line, lines_text}
 use Rattle.report_rules.specs.Lines.{head_lines, last_lines}
-use Rattle.report_rules.specs.Report.{Watch, Choice, lives_before, samples_lines, report, AllowedBefore}
+use Rattle.report_rules.specs.Report.{Watch, Choice, report, AllowedBefore}
 use Rattle.report_rules.specs.Replay.{AreFew}
-use Rattle.report_rules.proofs.Chosen.{length-lives_before}
-use Rattle.report_rules.proofs.Later.{lives-alike, lines-alike}
-use Rattle.model_bank.proofs.Allowed.{dues-allowed}
-use Rattle.report_rules.proofs.Placed.{length-allowed}
 use Rattle.report_rules.proofs.Parting.{PartsAt, NoneTaken, AllAgree, parts-behind, parts-before, parted-no-front, parted-agree}
-use Rattle.report_rules.proofs.Alike.{IsAllowedTo, SamplesAlike, samples-alike}
+use Rattle.report_rules.proofs.Alike.{SamplesAlike, samples-alike}
 
 -- ---- two justified reports
 

@@ -1,13 +1,12 @@
 -- What was replayed covers a justified report of the first samples, whichever choice it was replayed with.
-use Rattle.std.proofs.Common.{◌≡◌, ℕ, zero, suc, ◌+◌, ◌<◌, false, List, [], ◌++◌, length, refl, sym, ap, ◌∙◌, arith, subst, append_assoc, append-nil, length-append}
+use Rattle.std.proofs.Common.{◌≡◌, ℕ, ◌<◌, false, List, [], ◌++◌, length, refl, ap, ◌∙◌, arith, subst, append_assoc, append-nil, length-append}
 use Rattle.std.proofs.lemmas.Grind.{flat_map-append}
 use Rattle.plant_model.specs.Plant.{Plant, Sample}
-use Rattle.observer_step.specs.Answers.{Observer, any_justified}
+use Rattle.observer_step.specs.Answers.{any_justified}
 use Rattle.observer_step.specs.SetsAnswers.{sets_observer}
-use Rattle.model_bank.specs.Answers.{sample_answer}
 use Rattle.report_text.specs.Line.{Line, put_text, lines_text}
-use Rattle.report_rules.specs.Lines.{head_lines, sample_lines}
-use Rattle.report_rules.specs.Report.{Watch, Choice, lives_before, samples_lines, report, AllowedBefore}
+use Rattle.report_rules.specs.Lines.{head_lines}
+use Rattle.report_rules.specs.Report.{Watch, Choice, samples_lines, report}
 use Rattle.report_rules.specs.Replay.{watch, lines_so_far, Replayed, CoversBefore}
 use Rattle.report_rules.proofs.Longer.{allowed-first, lines-first}
 

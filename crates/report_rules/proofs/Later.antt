@@ -1,14 +1,14 @@
 -- Later samples change nothing of what is said of earlier ones.
-use Rattle.std.proofs.Common.{◌≡◌, ℕ, zero, suc, ◌+◌, ◌<◌, ◌≤◌, Bool, List, [], ◌∷◌, ◌++◌, length, Option, refl, sym, ap, ◌∙◌, arith, append_assoc, append-nil}
+use Rattle.std.proofs.Common.{◌≡◌, ℕ, zero, suc, ◌+◌, ◌<◌, ◌≤◌, Bool, List, [], ◌++◌, length, Option, refl, sym, ap, ◌∙◌, arith, append_assoc, append-nil}
 use Rattle.farkas_check.specs.Certificate.{Certificate}
 use Rattle.plant_model.specs.Plant.{Plant, Sample}
 use Rattle.observer_step.specs.Answers.{Observer, Rule}
 use Rattle.observer_step.specs.SetsAnswers.{sets_observer}
-use Rattle.model_bank.specs.Answers.{live_after, certificates_at, all_allowed, sample_answer}
+use Rattle.model_bank.specs.Answers.{live_after, all_allowed, sample_answer}
 use Rattle.model_bank.proofs.Later.{allowed-same, sample_answer-same as answer-same}
 use Rattle.report_text.specs.Line.{Line}
 use Rattle.report_rules.specs.Lines.{sample_lines}
-use Rattle.report_rules.specs.Report.{Choice, lives_before, samples_lines, due_choice}
+use Rattle.report_rules.specs.Report.{Choice, lives_before, samples_lines}
 
 module _ (samples more : List Sample) where
   abbrev all : List Sample

@@ -1,17 +1,15 @@
 -- The models below one, and that one: where its lines and its offer stand among those of all.
-use Rattle.std.proofs.Common.{◌≡◌, ℕ, suc, ◌+◌, Bool, true, false, not, ◌||◌, ◌&&◌, List, [], ◌∷◌, ◌++◌, length, drop, map, flat_map, get_or, Option, Some, None, is_some, option_map, if◌then◌else◌, refl, ap, ◌∙◌, arith, subst, length-append}
+use Rattle.std.proofs.Common.{◌≡◌, ℕ, suc, ◌+◌, Bool, true, false, not, ◌||◌, ◌&&◌, List, [], ◌∷◌, ◌++◌, length, drop, map, flat_map, get_or, Option, Some, None, is_some, if◌then◌else◌, refl, ap, ◌∙◌, arith, subst, length-append}
 use Rattle.std.specs.List.{enumerate_from}
-use Rattle.std.proofs.lemmas.Bool.Decides.{nat_tests}
 use Rattle.std.proofs.lemmas.List.{length-map, drop-drop}
 use Rattle.std.proofs.lemmas.List.FromFn.{length-enumerate_from}
 use Rattle.set_rules.proofs.ImageSets.{length-tabulate}
-use Rattle.farkas_check.specs.Certificate.{Certificate, by_out}
+use Rattle.farkas_check.specs.Certificate.{Certificate}
 use Rattle.plant_model.specs.Plant.{Plant, Sample, sample_at}
 use Rattle.observer_step.specs.Predicted.{out_of, hulls}
 use Rattle.set_rules.specs.Box.{hull as hull_of}
-use Rattle.observer_step.specs.Answers.{Answer, Observer, answer_with, certificate_at, due_at, is_justified, any_justified, allows_at}
-use Rattle.observer_step.specs.SetsAnswers.{sets_observer}
-use Rattle.model_bank.specs.Answers.{ModelAnswer, answer_if, answers_from, certificates_at, all_allowed}
+use Rattle.observer_step.specs.Answers.{Answer, Observer, answer_with, any_justified, allows_at}
+use Rattle.model_bank.specs.Answers.{ModelAnswer, answer_if, answers_from, all_allowed}
 use Rattle.report_text.specs.Line.{Line, pred, hull, status}
 use Rattle.report_rules.specs.Lines.{pred_lines, hull_lines, outcome_lines, model_lines}
 use Rattle.report_rules.specs.Replay.{IsOffer, OffersAre, count_of}

@@ -1,14 +1,12 @@
 -- What is known in the middle of a check goes on from sample to sample, and where the bytes depart in a sample.
-use Rattle.std.proofs.Common.{◌≡◌, ◌≢◌, ◌⊎◌, inl, inr, ℕ, zero, suc, ◌+◌, ◌<◌, ◌≤◌, ◌==◌, Bool, true, false, List, [], ◌∷◌, ◌++◌, length, get_or, take, drop, Option, if◌then◌else◌, refl, sym, ap, ◌∙◌, arith, subst, append_assoc, length-append}
+use Rattle.std.proofs.Common.{◌≡◌, ◌≢◌, inl, inr, ℕ, suc, ◌+◌, ◌<◌, Bool, true, List, [], ◌∷◌, ◌++◌, length, get_or, take, drop, Option, refl, sym, ap, ◌∙◌, arith, subst, append_assoc, length-append}
 use Rattle.std.specs.List.{list_all}
-use Rattle.std.proofs.lemmas.Bool.Decides.{nat_tests}
-use Rattle.std.proofs.Math.Nat.{eq-or-lt_of_le}
 use Rattle.std.proofs.lemmas.List.{append-nil, append_cancel_left, length-take-le}
 use Rattle.farkas_check.specs.Certificate.{Certificate}
 use Rattle.plant_model.specs.Plant.{Plant, Sample}
 use Rattle.observer_step.specs.Answers.{any_justified}
 use Rattle.observer_step.specs.SetsAnswers.{sets_observer}
-use Rattle.model_bank.specs.Answers.{all_allowed, sample_answer, live_after}
+use Rattle.model_bank.specs.Answers.{all_allowed, sample_answer}
 use Rattle.report_text.specs.Line.{Line, put_text, lines_text}
 use Rattle.report_text.specs.Ranges.{is_in_range}
 use Rattle.report_rules.specs.Lines.{head_lines, sample_lines, last_lines}

@@ -1,9 +1,9 @@
-use Rattle.std.proofs.Common.{◌≡◌, ◌+◌, ◌<◌, ◌++◌, ◌∷◌, [], length, map, get_or, set, option_map, subst, sym, ap, ◌∙◌, arith}
+use Rattle.std.proofs.Common.{◌+◌, ◌<◌, ◌++◌, ◌∷◌, [], length, map, get_or, set, option_map, subst, sym, ap, ◌∙◌, arith}
 use Rattle.std.proofs.lemmas.List.Elements.{All-set}
 use Rattle.plant_model.specs.Seen.{sample_of}
 use Rattle.model_bank.specs.Bank.{HasPlantOf}
 use Rattle.model_bank.specs.Seen.{model_seen}
-use Rattle.model_bank.proofs.Taking.{Took, took-none, took-next, took-more, took-all, refused-here, offers-room, told-more, told-few}
+use Rattle.model_bank.proofs.Taking.{Took, took-none, took-next, took-more, refused-here, offers-room, told-more, told-few}
 use Rattle.model_bank.proofs.bank.take_all.Goals as goal
 
 pub loop-i-init : goal.loop-i-init
