@@ -2,6 +2,7 @@ mod checks;
 mod faults;
 pub mod inputs;
 mod kept_rows;
+mod limits;
 mod one_model;
 mod refusals;
 pub mod several_models;
