@@ -1,0 +1,5 @@
+pub mod Halves
+pub mod Keeps
+pub mod Grows
+pub mod Draws
+pub mod Follows

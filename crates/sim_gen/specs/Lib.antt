@@ -1,0 +1,4 @@
+pub mod Generator
+pub mod Process
+pub mod Telemetry
+pub mod Models
