@@ -5,4 +5,6 @@ pub mod Least
 pub mod Found
 pub mod Halvings
 pub mod Values
+pub mod Outweighed
+pub mod Gains
 pub mod Sides

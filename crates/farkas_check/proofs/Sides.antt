@@ -12,7 +12,7 @@ use Rattle.fixed_mat.specs.Rows.{Table}
 use Rattle.farkas_check.specs.declared.pair.Pair.{Pair}
 use Rattle.farkas_check.specs.Two.{right_side, row_sum, own_of, left_of_two, right_of_two, pair_passes, least_left}
 use Rattle.farkas_check.specs.Search.{first_at, first_in_column}
-use Rattle.farkas_check.specs.Sides.{IsPair, right_by, least_by}
+use Rattle.farkas_check.specs.Sides.{IsPair, right_by, least_by, AllWithin}
 use Rattle.farkas_check.proofs.Least.{left-least, own-total}
 use Rattle.farkas_check.proofs.PairLists.{unit-passes, pair-passes}
 use Rattle.farkas_check.proofs.Found.{missed-part}
@@ -70,24 +70,10 @@ module _ (t : Table) (p : Pair) (is : IsPair t p) where
       through : (x y z : ℤ) {u : ℤ} → x ≡ u → x ≤ℤ y → y ≤ℤ z → u ≤ℤ z
       through x y z e h k = omega (arith, ints)
 
-  -- all do where no right side is above what its row has to itself
-  module _ (h : unsigned_abs p.first.right ≤ p.first.own) (k : unsigned_abs p.second.right ≤ p.second.own) where
-    all-fail : (x y : ℤ) → pair_passes t.width t.rows p.r p.s x y ≡ false
-    all-fail x y = within-fails x y
-        (close (x *ℤ p.first.right) (y *ℤ p.second.right) (unsigned_abs x * p.first.own) (unsigned_abs y * p.second.own)
-        (magnitude x *ℤ (pos p.first.sum -ℤ pos p.first.own) -ℤ magnitude y *ℤ (pos p.second.sum -ℤ pos p.second.own)) (part x p.first.right p.first.own h) (part y p.second.right p.second.own k))
-      where
-        part : (x b : ℤ) (own : ℕ) → unsigned_abs b ≤ own → unsigned_abs (x *ℤ b) ≤ unsigned_abs x * own
-        part x b own h =
-            let size = unsigned_abs-mul x b in
-            let most : unsigned_abs x * unsigned_abs b ≤ unsigned_abs x * own = mul-le-mul (le_refl (unsigned_abs x)) h in
-            omega arith
-
-        close : (u v : ℤ) (p q : ℕ) (z : ℤ) → unsigned_abs u ≤ p → unsigned_abs v ≤ q → magnitude (u +ℤ v) ≤ℤ (pos p +ℤ pos q +ℤ magnitude z)
-        close u v p q z h k = omega (arith, ints)
-
+  -- all do where none has a right side above what is left
+  module _ (within : AllWithin p) where
     none-at : (column : ℕ) → first_in_column t.width t.rows p.r p.s column ≡ None
-    none-at column = by _ _ (all-fail _ _)
+    none-at column = by _ _ (within-fails _ _ (within _ _))
       where
         by : (b : Bool) (list : List ℤ) → passes t.width t.rows list ≡ false → find (passes t.width t.rows) (if b then [] else list ∷ []) ≡ None
         by true list e = refl

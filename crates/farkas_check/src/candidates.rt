@@ -5,7 +5,7 @@ ghost use Rattle.set_rules.specs.Farkas.{passes as passes_of, first_candidate as
 ghost use Rattle.farkas_check.specs.Certificate.{list_of};
 ghost use Rattle.farkas_check.specs.Search.{first_unit as first_unit_of, first_pair as first_pair_of};
 ghost use Rattle.farkas_check.specs.Search.{first_from as first_from_of, first_at as first_at_of, first_in_column};
-ghost use Rattle.farkas_check.specs.Sides.{IsPair};
+ghost use Rattle.farkas_check.specs.Sides.{IsPair, OpposedWithin};
 
 use crate::certificate::Multipliers;
 use crate::factors::Factors;
@@ -73,18 +73,21 @@ fn first_at(rows: &Rows, r: usize, s: usize) -> Option<Multipliers>
     if pair.is_hopeless() {
         return None;
     }
+    let opposed_fail = pair.is_hopeless_opposed();
     for t in 0..rows.width() {
-        if let Some(found) = candidate_at(rows, &pair, t) {
+        if let Some(found) = candidate_at(rows, &pair, t, opposed_fail) {
             return Some(found);
         }
     }
     None
 }
 
-/// The candidate of two rows at column `t`, if both have a coefficient there and it passes.
-fn candidate_at(rows: &Rows, pair: &Pair, t: usize) -> Option<Multipliers>
+/// The candidate of two rows at column `t`, if both have a coefficient there and it passes. Where it is known that none does
+/// whose right sides take from each other, such a one is not looked at further.
+fn candidate_at(rows: &Rows, pair: &Pair, t: usize, opposed_fail: bool) -> Option<Multipliers>
     requires column { t < rows.now.width }
     requires pair { IsPair rows.now pair.now }
+    requires opposed { IsTrue opposed_fail → OpposedWithin pair.now }
     ensures { option_map list_of result ≡ first_in_column rows.now.width rows.now.rows pair.now.r pair.now.s t }
 {
     let a = rows.coef(pair.r, t);
@@ -93,7 +96,7 @@ fn candidate_at(rows: &Rows, pair: &Pair, t: usize) -> Option<Multipliers>
         return None;
     }
     let by = Factors::cancelling(a, b);
-    if pair.passes(rows, by) {
+    if pair.passes(rows, by, opposed_fail) {
         Some(Multipliers::pair(rows.count(), pair.r, pair.s, by))
     } else {
         None

@@ -32,7 +32,7 @@ impl Factors {
 }
 
 /// The least number of halvings that brings `size` below `2^31`.
-fn halvings_of(size: u128) -> u32
+pub(crate) fn halvings_of(size: u128) -> u32
     ensures value { result ≡ shift_below (2 ^ 31) size }
     ensures few { result ≤ 97 }
     ensures below { size / 2 ^ result < 2 ^ 31 }

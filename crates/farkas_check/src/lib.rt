@@ -4,6 +4,7 @@
 mod candidates;
 mod certificate;
 mod factors;
+mod gain;
 mod pair;
 mod refutation;
 mod side;

@@ -6,7 +6,7 @@ ghost use Rattle.set_rules.specs.Columns.{at};
 ghost use Rattle.set_rules.specs.Limits.{row_limit};
 ghost use Rattle.farkas_check.specs.Multipliers.{multiplied_limit};
 ghost use Rattle.farkas_check.specs.Two.{own_of, pair_passes};
-ghost use Rattle.farkas_check.specs.Sides.{IsPair, right_by, least_by, left_by};
+ghost use Rattle.farkas_check.specs.Sides.{IsPair, right_by, least_by, left_by, AllWithin, AreOpposed, OpposedWithin};
 
 use crate::factors::Factors;
 use crate::refutation::multiplied;
@@ -50,13 +50,19 @@ impl Pair {
         }
     }
 
-    /// Whether no right side is above what its row has to itself; then no multipliers of the two pass.
+    /// Whether no multipliers of the two pass: the one row gains nothing, and the other less than the one loses.
     pub(crate) fn is_hopeless(&self) -> bool
-        ensures first { IsTrue result → unsigned_abs self.now.first.right ≤ self.now.first.own }
-        ensures second { IsTrue result → unsigned_abs self.now.second.right ≤ self.now.second.own }
+        ensures { IsTrue result → AllWithin self.now }
     {
-        self.first.right.unsigned_abs() <= self.first.own
-            && self.second.right.unsigned_abs() <= self.second.own
+        self.first.is_outweighed_by(&self.second) || self.second.is_outweighed_by(&self.first)
+    }
+
+    /// Whether none pass under which the right sides take from each other.
+    pub(crate) fn is_hopeless_opposed(&self) -> bool
+        ensures { IsTrue result → OpposedWithin self.now }
+    {
+        self.first.is_outweighed(self.second.reach(), &self.second)
+            && self.second.is_outweighed(self.first.reach(), &self.first)
     }
 
     /// The right sides, multiplied and added.
@@ -64,6 +70,15 @@ impl Pair {
         ensures { result ≡ right_by self.now by.first by.second }
     {
         combined(by, self.first.right, self.second.right)
+    }
+
+    /// Whether the right sides take from each other under these multipliers.
+    fn are_opposed(&self, by: Factors) -> bool
+        ensures { IsTrue result → AreOpposed self.now by.first by.second }
+    {
+        let first = multiplied(by.first, self.first.right);
+        let second = multiplied(by.second, self.second.right);
+        if first <= 0 { 0 <= second } else { second <= 0 }
     }
 
     /// What the rows' sums show to be left in the columns at the least.
@@ -79,11 +94,15 @@ impl Pair {
     }
 
     /// Whether these multipliers of the two pass. They are summed over the columns only where the rows' sums leave it
-    /// open.
-    pub(crate) fn passes(&self, rows: &Rows, by: Factors) -> bool
-        requires { IsPair rows.now self.now }
+    /// open, and not looked at where none pass whose right sides take from each other, as theirs do.
+    pub(crate) fn passes(&self, rows: &Rows, by: Factors, opposed_fail: bool) -> bool
+        requires pair { IsPair rows.now self.now }
+        requires opposed { IsTrue opposed_fail → OpposedWithin self.now }
         ensures { result ≡ pair_passes rows.now.width rows.now.rows self.now.r self.now.s by.first by.second }
     {
+        if opposed_fail && self.are_opposed(by) {
+            return false;
+        }
         let right = self.right(by).unsigned_abs();
         self.least_left(by) < right && leaves_less(rows.row(self.r), rows.row(self.s), by, right)
     }

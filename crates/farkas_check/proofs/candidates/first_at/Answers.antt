@@ -9,7 +9,7 @@ use Rattle.farkas_check.proofs.candidates.first_at.Goals as goal
 pub returns-then-is_hopeless : goal.returns-then-is_hopeless
 returns-then-is_hopeless c =
     sym ((λ i. first_at c.args.rows.now.width c.args.rows.now.rows (sym c.of-pair.ensures.first i) (sym c.of-pair.ensures.second i))
-    ∙ none-first c.args.rows.now c.of-pair.result c.of-pair.ensures.pair (c.is_hopeless.ensures.first c.if-is_hopeless.true) (c.is_hopeless.ensures.second c.if-is_hopeless.true))
+    ∙ none-first c.args.rows.now c.of-pair.result c.of-pair.ensures.pair (c.is_hopeless.ensures c.if-is_hopeless.true))
 
 pub returns-in-Some : goal.returns-in-Some
 returns-in-Some c =
