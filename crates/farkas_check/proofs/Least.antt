@@ -6,7 +6,7 @@ use lib.IntN.{*ℤ-zero, +ℤ_comm}
 use Rattle.set_rules.specs.Sum.{total, magnitude}
 use Rattle.set_rules.specs.Rows.{Row}
 use Rattle.set_rules.specs.Farkas.{coefficient}
-use Rattle.set_rules.proofs.Ring.{mul_add, mul_neg, neg_mul}
+use Rattle.set_rules.proofs.Ring.{mul_add, mul_neg, neg_mul, mul_mono}
 use Rattle.set_rules.proofs.Sums.{total-zero, total-suc, total-same, total-add, total-scale, magnitude-mul}
 use Rattle.farkas_check.specs.Two.{own_of, row_sum, left_of_two, least_left}
 
@@ -80,6 +80,9 @@ module _ (a b : ℕ → ℤ) (x y : ℤ) where
           which : (own m k : ℕ) → (max own (if nat_eq k 0 then m else 0) ≡ own) ⊎ ((k ≡ 0) × (max own (if nat_eq k 0 then m else 0) ≡ m))
           which own m k = grind (arith, nat_tests)
 
+  total-part : (n q : ℕ) → q ≤ own_of n b a → (magnitude y *ℤ pos q +ℤ magnitude y *ℤ pos q) ≤ℤ total n over
+  total-part n q h = let less = mul_mono (unsigned_abs y) (pos q) (pos (own_of n b a)) (omega (arith, ints)) in let all = total-own n in omega (arith, ints)
+
   total-over : (n : ℕ) → total n over ≡ total n (λ t. magnitude (x *ℤ a t +ℤ y *ℤ b t)) +ℤ (neg_ℤ (magnitude x) *ℤ total n (λ t. magnitude (a t)) +ℤ magnitude y *ℤ total n (λ t. magnitude (b t)))
   unfolding over
   total-over n =
@@ -90,27 +93,25 @@ module _ (a b : ℕ → ℤ) (x y : ℤ) where
       ∙ ap (λ z. neg_ℤ (magnitude x) *ℤ total n (λ t. magnitude (a t)) +ℤ z) (total-scale n (magnitude y) (λ t. magnitude (b t))))
 
   -- the columns leave at least |x| times one sum less |y| times the other, and twice |y| times what the second has to itself
-  left-over : (n : ℕ) → (magnitude x *ℤ total n (λ t. magnitude (a t)) -ℤ magnitude y *ℤ total n (λ t. magnitude (b t)) +ℤ (magnitude y *ℤ pos (own_of n b a) +ℤ magnitude y *ℤ pos (own_of n b a)))
+  left-over : (n q : ℕ) → q ≤ own_of n b a → (magnitude x *ℤ total n (λ t. magnitude (a t)) -ℤ magnitude y *ℤ total n (λ t. magnitude (b t)) +ℤ (magnitude y *ℤ pos q +ℤ magnitude y *ℤ pos q))
       ≤ℤ total n (λ t. magnitude (x *ℤ a t +ℤ y *ℤ b t))
-  left-over n =
+  left-over n q h =
       close (magnitude x *ℤ total n (λ t. magnitude (a t))) (magnitude y *ℤ total n (λ t. magnitude (b t))) (neg_ℤ (magnitude x) *ℤ total n (λ t. magnitude (a t)))
-      (total n (λ t. magnitude (x *ℤ a t +ℤ y *ℤ b t))) (total n over) (magnitude y *ℤ pos (own_of n b a)) (total-over n) (neg_mul (magnitude x) (total n (λ t. magnitude (a t)))) (total-own n)
+      (total n (λ t. magnitude (x *ℤ a t +ℤ y *ℤ b t))) (total n over) (magnitude y *ℤ pos q) (total-over n) (neg_mul (magnitude x) (total n (λ t. magnitude (a t)))) (total-part n q h)
     where
       close : (m n k f o own : ℤ) → o ≡ f +ℤ (k +ℤ n) → k ≡ neg_ℤ m → (own +ℤ own) ≤ℤ o → (m -ℤ n +ℤ (own +ℤ own)) ≤ℤ f
       close m n k f o own e g h = omega (arith, ints)
 
 -- both rows' sums, and what each has to itself
-at_least : (n : ℕ) (a b : ℕ → ℤ) (x y : ℤ) (m k : ℕ) → pos m ≡ total n (λ t. magnitude (a t)) → pos k ≡ total n (λ t. magnitude (b t))
-    → least_left m (own_of n a b) k (own_of n b a) x y ≤ℤ total n (λ t. magnitude (x *ℤ a t +ℤ y *ℤ b t))
-at_least n a b x y m k first second =
-    let p = own_of n a b in
-    let q = own_of n b a in
+at_least : (n : ℕ) (a b : ℕ → ℤ) (x y : ℤ) (m p k q : ℕ) → p ≤ own_of n a b → q ≤ own_of n b a → pos m ≡ total n (λ t. magnitude (a t)) → pos k ≡ total n (λ t. magnitude (b t))
+    → least_left m p k q x y ≤ℤ total n (λ t. magnitude (x *ℤ a t +ℤ y *ℤ b t))
+at_least n a b x y m p k q less more first second =
     let turned : total n (λ t. magnitude (y *ℤ b t +ℤ x *ℤ a t)) ≡ total n (λ t. magnitude (x *ℤ a t +ℤ y *ℤ b t)) =
     total-same n _ _ (λ t _. ap magnitude (+ℤ_comm (y *ℤ b t) (x *ℤ a t))) in
     both (magnitude x *ℤ pos m) (magnitude y *ℤ pos k) (total n (λ t. magnitude (x *ℤ a t +ℤ y *ℤ b t))) (magnitude x *ℤ pos p) (magnitude y *ℤ pos q)
     (magnitude x *ℤ (pos m -ℤ pos p)) (magnitude y *ℤ (pos k -ℤ pos q)) (mul_sub (magnitude x) (pos m) (pos p)) (mul_sub (magnitude y) (pos k) (pos q))
-    (ap (λ z. magnitude x *ℤ z) first) (ap (λ z. magnitude y *ℤ z) second) (left-over a b x y n)
-    (subst (λ z. (magnitude y *ℤ total n (λ t. magnitude (b t)) -ℤ magnitude x *ℤ total n (λ t. magnitude (a t)) +ℤ (magnitude x *ℤ pos p +ℤ magnitude x *ℤ pos p)) ≤ℤ z) turned (left-over b a y x n))
+    (ap (λ z. magnitude x *ℤ z) first) (ap (λ z. magnitude y *ℤ z) second) (left-over a b x y n q more)
+    (subst (λ z. (magnitude y *ℤ total n (λ t. magnitude (b t)) -ℤ magnitude x *ℤ total n (λ t. magnitude (a t)) +ℤ (magnitude x *ℤ pos p +ℤ magnitude x *ℤ pos p)) ≤ℤ z) turned (left-over b a y x n p less))
   where
     mul_sub : (k s o : ℤ) → k *ℤ (s -ℤ o) ≡ k *ℤ s -ℤ k *ℤ o
     mul_sub k s o = mul_add k s (neg_ℤ o) ∙ ap (λ z. k *ℤ s +ℤ z) (mul_neg k o)
@@ -119,6 +120,6 @@ at_least n a b x y m k first second =
     both m n f p q r s d e g i h k = omega (arith, ints)
 
 -- two rows leave no less than their sums and what each has to itself show
-pub left-least : (width : ℕ) (rows : List Row) (r s : ℕ) (x y : ℤ) (m k : ℕ) → pos m ≡ row_sum width rows r → pos k ≡ row_sum width rows s
-    → least_left m (own_of width (coefficient rows r) (coefficient rows s)) k (own_of width (coefficient rows s) (coefficient rows r)) x y ≤ℤ left_of_two width rows r s x y
-left-least width rows r s x y m k first second = at_least width (coefficient rows r) (coefficient rows s) x y m k first second
+pub left-least : (width : ℕ) (rows : List Row) (r s : ℕ) (x y : ℤ) (m p k q : ℕ) → p ≤ own_of width (coefficient rows r) (coefficient rows s) → q ≤ own_of width (coefficient rows s) (coefficient rows r)
+    → pos m ≡ row_sum width rows r → pos k ≡ row_sum width rows s → least_left m p k q x y ≤ℤ left_of_two width rows r s x y
+left-least width rows r s x y m p k q less more first second = at_least width (coefficient rows r) (coefficient rows s) x y m p k q less more first second

@@ -7,4 +7,6 @@ pub mod Halvings
 pub mod Values
 pub mod Outweighed
 pub mod Gains
+pub mod Signs
+pub mod Opposed
 pub mod Sides

@@ -6,13 +6,13 @@ use Rattle.std.proofs.lemmas.List.Sums.{sum_by-cons}
 use Rattle.set_rules.specs.Sum.{total, magnitude}
 use Rattle.set_rules.specs.Columns.{at}
 use Rattle.set_rules.specs.Rows.{Row, row_at}
-use Rattle.set_rules.specs.Farkas.{passes, unit_list, pair_at}
+use Rattle.set_rules.specs.Farkas.{coefficient, passes, unit_list, pair_at}
 use Rattle.set_rules.proofs.Sums.{total-zero, total-more, total-split, total-same}
 use Rattle.fixed_mat.specs.Rows.{Table}
 use Rattle.farkas_check.specs.declared.pair.Pair.{Pair}
 use Rattle.farkas_check.specs.Two.{right_side, row_sum, own_of, left_of_two, right_of_two, pair_passes, least_left}
 use Rattle.farkas_check.specs.Search.{first_at, first_in_column}
-use Rattle.farkas_check.specs.Sides.{IsPair, right_by, least_by, AllWithin}
+use Rattle.farkas_check.specs.Sides.{IsPair, right_by, least_by, AllWithin, OpposedAt, OpposedWithin}
 use Rattle.farkas_check.proofs.Least.{left-least, own-total}
 use Rattle.farkas_check.proofs.PairLists.{unit-passes, pair-passes}
 use Rattle.farkas_check.proofs.Found.{missed-part}
@@ -37,7 +37,7 @@ pub row_sum-is : (width : ℕ) (rows : List Row) (r : ℕ) (a : List ℤ) (sum :
 row_sum-is width rows r a sum is wide e = ap pos e ∙ sum-is a ∙ (λ i. total (wide i) (λ t. magnitude (at (is i) t)))
 
 -- what a row has to itself is part of its sum
-pub own-within : (a b : List ℤ) (own sum : ℕ) → own ≡ own_of (length a) (at a) (at b) → sum ≡ sum_by unsigned_abs a → own ≤ sum
+pub own-within : (a b : List ℤ) (own sum : ℕ) → own ≤ own_of (length a) (at a) (at b) → sum ≡ sum_by unsigned_abs a → own ≤ sum
 own-within a b own sum e f = let all = own-total (length a) (at a) (at b) in let whole = sum-is a in omega (arith, ints)
 
 -- a row alone passes where its right side is above its sum
@@ -54,8 +54,8 @@ not_less x y h = grind (arith, ints)
 
 module _ (t : Table) (p : Pair) (is : IsPair t p) where
   least-left : (x y : ℤ) → least_by p x y ≤ℤ left_of_two t.width t.rows p.r p.s x y
-  least-left x y = subst₂ (λ m n. least_left p.first.sum m p.second.sum n x y ≤ℤ left_of_two t.width t.rows p.r p.s x y) (sym is.first.own_is) (sym is.second.own_is)
-      (left-least t.width t.rows p.r p.s x y p.first.sum p.second.sum is.first.sum_is is.second.sum_is)
+  least-left x y =
+      left-least t.width t.rows p.r p.s x y p.first.sum p.first.own p.second.sum p.second.own is.first.own_within is.second.own_within is.first.sum_is is.second.sum_is
 
   pub right-is : (x y : ℤ) → magnitude (right_by p x y) ≡ right_of_two t.rows p.r p.s x y
   right-is x y = (λ i. magnitude (x *ℤ is.first.right_is i +ℤ y *ℤ is.second.right_is i))
@@ -70,14 +70,18 @@ module _ (t : Table) (p : Pair) (is : IsPair t p) where
       through : (x y z : ℤ) {u : ℤ} → x ≡ u → x ≤ℤ y → y ≤ℤ z → u ≤ℤ z
       through x y z e h k = omega (arith, ints)
 
+  by-test : (b : Bool) (list : List ℤ) → passes t.width t.rows list ≡ false → find (passes t.width t.rows) (if b then [] else list ∷ []) ≡ None
+  by-test true list e = refl
+  by-test false list e = ap (λ b. cond b (Some list) None) e
+
+  -- the candidate at a column does where the right sides take from each other and are then within what is left
+  pub opposed-none : (column : ℕ) → OpposedWithin p → OpposedAt p (coefficient t.rows p.r column) (coefficient t.rows p.s column) → first_in_column t.width t.rows p.r p.s column ≡ None
+  opposed-none column within opposed = by-test _ _ (within-fails _ _ (within _ _ (opposed _)))
+
   -- all do where none has a right side above what is left
   module _ (within : AllWithin p) where
     none-at : (column : ℕ) → first_in_column t.width t.rows p.r p.s column ≡ None
-    none-at column = by _ _ (within-fails _ _ (within _ _))
-      where
-        by : (b : Bool) (list : List ℤ) → passes t.width t.rows list ≡ false → find (passes t.width t.rows) (if b then [] else list ∷ []) ≡ None
-        by true list e = refl
-        by false list e = ap (λ b. cond b (Some list) None) e
+    none-at column = by-test _ _ (within-fails _ _ (within _ _))
 
     pub none-first : first_at t.width t.rows p.r p.s ≡ None
     none-first = missed-part (passes t.width t.rows) (pair_at t.rows p.r p.s) 0 t.width (λ column _ _. none-at column)

@@ -1,19 +1,20 @@
 -- What the code knows of two rows.
-use Rattle.std.specs.Prelude.{◌≡◌, ◌⊎◌, ℕ, ◌-◌, ◌*◌, ◌<◌, ◌≤◌, List, length, ℤ, pos, ◌+ℤ◌, ◌*ℤ◌, ◌≤ℤ◌, unsigned_abs}
+use Rattle.std.specs.Prelude.{◌≡◌, ◌⊎◌, ℕ, ◌-◌, ◌*◌, ◌<◌, ◌≤◌, List, length, ℤ, pos, ◌+ℤ◌, ◌*ℤ◌, ◌≤ℤ◌, neg_ℤ, unsigned_abs}
 use Rattle.set_rules.specs.Sum.{total, magnitude}
 use Rattle.set_rules.specs.Columns.{at}
 use Rattle.set_rules.specs.Rows.{Row}
 use Rattle.set_rules.specs.Farkas.{coefficient}
+use Rattle.set_rules.specs.Gain.{shrunk_value}
 use Rattle.fixed_mat.specs.Rows.{Table}
 use Rattle.farkas_check.specs.Two.{right_side, row_sum, own_of, least_left}
 use Rattle.farkas_check.specs.declared.side.Side.{Side}
 use Rattle.farkas_check.specs.declared.pair.Pair.{Pair}
 
--- of row r beside row s: its right side, the sum of its magnitudes, and the greatest that it has to itself
+-- of row r beside row s: its right side, the sum of its magnitudes, and one of these, or less, that it has to itself
 pub record IsSide (width : ℕ) (rows : List Row) (r s : ℕ) (side : Side) : Type 0 where
   pub right_is : side.right ≡ right_side rows r
   pub sum_is : pos side.sum ≡ row_sum width rows r
-  pub own_is : side.own ≡ own_of width (coefficient rows r) (coefficient rows s)
+  pub own_within : side.own ≤ own_of width (coefficient rows r) (coefficient rows s)
 
 -- a pair of two rows, the older one first
 pub record IsPair (t : Table) (p : Pair) : Type 0 where
@@ -67,3 +68,7 @@ AreOpposed p x y = (((x *ℤ p.first.right) ≤ℤ pos 0) × (pos 0 ≤ℤ (y *�
 -- the right side is within what is left where they do
 abbrev pub OpposedWithin : Pair → Type 0
 OpposedWithin p = (x y : ℤ) → AreOpposed p x y → magnitude (right_by p x y) ≤ℤ least_by p x y
+
+-- they do under the multipliers under which coefficients a and b cancel, however often these are halved
+abbrev pub OpposedAt : Pair → (a b : ℤ) → Type 0
+OpposedAt p a b = (halvings : ℕ) → AreOpposed p (shrunk_value halvings b) (neg_ℤ (shrunk_value halvings a))

@@ -82,8 +82,8 @@ fn first_at(rows: &Rows, r: usize, s: usize) -> Option<Multipliers>
     None
 }
 
-/// The candidate of two rows at column `t`, if both have a coefficient there and it passes. Where it is known that none does
-/// whose right sides take from each other, such a one is not looked at further.
+/// The candidate of two rows at column `t`, if both have a coefficient there and it passes. Where it is known that none
+/// does whose right sides take from each other, such a one is not looked at further.
 fn candidate_at(rows: &Rows, pair: &Pair, t: usize, opposed_fail: bool) -> Option<Multipliers>
     requires column { t < rows.now.width }
     requires pair { IsPair rows.now pair.now }
@@ -95,8 +95,11 @@ fn candidate_at(rows: &Rows, pair: &Pair, t: usize, opposed_fail: bool) -> Optio
     if a == 0 || b == 0 {
         return None;
     }
+    if opposed_fail && pair.are_opposed_at(a, b) {
+        return None;
+    }
     let by = Factors::cancelling(a, b);
-    if pair.passes(rows, by, opposed_fail) {
+    if pair.passes(rows, by) {
         Some(Multipliers::pair(rows.count(), pair.r, pair.s, by))
     } else {
         None

@@ -6,7 +6,7 @@ ghost use Rattle.set_rules.specs.Columns.{at};
 ghost use Rattle.set_rules.specs.Limits.{row_limit};
 ghost use Rattle.farkas_check.specs.Multipliers.{multiplied_limit};
 ghost use Rattle.farkas_check.specs.Two.{own_of, pair_passes};
-ghost use Rattle.farkas_check.specs.Sides.{IsPair, right_by, least_by, left_by, AllWithin, AreOpposed, OpposedWithin};
+ghost use Rattle.farkas_check.specs.Sides.{IsPair, right_by, least_by, left_by, AllWithin, OpposedAt, OpposedWithin};
 
 use crate::factors::Factors;
 use crate::refutation::multiplied;
@@ -72,13 +72,11 @@ impl Pair {
         combined(by, self.first.right, self.second.right)
     }
 
-    /// Whether the right sides take from each other under these multipliers.
-    fn are_opposed(&self, by: Factors) -> bool
-        ensures { IsTrue result → AreOpposed self.now by.first by.second }
+    /// Whether the right sides take from each other under the multipliers under which these two coefficients cancel.
+    pub(crate) fn are_opposed_at(&self, a: i128, b: i128) -> bool
+        ensures { IsTrue result → OpposedAt self.now a b }
     {
-        let first = multiplied(by.first, self.first.right);
-        let second = multiplied(by.second, self.second.right);
-        if first <= 0 { 0 <= second } else { second <= 0 }
+        ((a < 0) == (b < 0)) == ((self.first.right < 0) == (self.second.right < 0))
     }
 
     /// What the rows' sums show to be left in the columns at the least.
@@ -94,21 +92,21 @@ impl Pair {
     }
 
     /// Whether these multipliers of the two pass. They are summed over the columns only where the rows' sums leave it
-    /// open, and not looked at where none pass whose right sides take from each other, as theirs do.
-    pub(crate) fn passes(&self, rows: &Rows, by: Factors, opposed_fail: bool) -> bool
-        requires pair { IsPair rows.now self.now }
-        requires opposed { IsTrue opposed_fail → OpposedWithin self.now }
+    /// open.
+    pub(crate) fn passes(&self, rows: &Rows, by: Factors) -> bool
+        requires { IsPair rows.now self.now }
         ensures { result ≡ pair_passes rows.now.width rows.now.rows self.now.r self.now.s by.first by.second }
     {
-        if opposed_fail && self.are_opposed(by) {
-            return false;
-        }
         let right = self.right(by).unsigned_abs();
         self.least_left(by) < right && leaves_less(rows.row(self.r), rows.row(self.s), by, right)
     }
 }
 
-/// The greatest magnitude of each of two rows in the columns in which the other has 0.
+/// In how many of the newest columns it is looked for what a row has to itself: there lies the symbol of its noise, which
+/// is mostly the greatest. Only time rests on it.
+const NEWEST: usize = 16;
+
+/// The greatest magnitude of each of two rows in those of the newest columns in which the other has 0.
 #[derive(Clone, Copy, Debug)]
 struct Own {
     first: u128,
@@ -119,12 +117,13 @@ impl Own {
     /// Of two rows with these coefficients.
     fn of(a: &Coefs, b: &Coefs) -> Own
         requires { length a.now ≡ length b.now }
-        ensures first { result.first ≡ own_of (length a.now) (at a.now) (at b.now) }
-        ensures second { result.second ≡ own_of (length a.now) (at b.now) (at a.now) }
+        ensures first { result.first ≤ own_of (length a.now) (at a.now) (at b.now) }
+        ensures second { result.second ≤ own_of (length a.now) (at b.now) (at a.now) }
     {
         let mut first = 0;
         let mut second = 0;
-        for t in 0..a.len() {
+        let width = a.len();
+        for t in width.saturating_sub(NEWEST)..width {
             first = with_own(first, a.at(t), b.at(t));
             second = with_own(second, b.at(t), a.at(t));
         }

@@ -1,21 +1,23 @@
-use Rattle.std.proofs.Common.{◌≡◌, ℕ, ◌+◌, ℤ, max, nat_eq, if◌then◌else◌, unsigned_abs, SFits, to_z-of_z, ◌∙◌, refl, add-one}
+use Rattle.std.proofs.Common.{◌≡◌, ℕ, ◌+◌, ℤ, max, nat_eq, if◌then◌else◌, unsigned_abs, ◌≤◌, subst, SFits, to_z-of_z, ◌∙◌, add-one, arith}
 use mir.Syntax.{w128}
 use Rattle.set_rules.specs.Columns.{at}
 use Rattle.farkas_check.specs.Two.{own_of}
 use Rattle.farkas_check.proofs.pair.Own.of.Goals as goal
 
-none : (a b : ℕ → ℤ) → 0 ≡ own_of 0 a b
-unfolding own_of
-none a b = refl
-
 -- one more column
 more : (n most next : ℕ) (u v : ℤ) (a b : ℕ → ℤ) → next ≡ max most (if nat_eq (unsigned_abs v) 0 then unsigned_abs u else 0)
-    → most ≡ own_of n a b → u ≡ a n → v ≡ b n → next ≡ own_of (n + 1) a b
+    → most ≤ own_of n a b → u ≡ a n → v ≡ b n → next ≤ own_of (n + 1) a b
 unfolding own_of
-more n most next u v a b is before e f = rw add-one (is ∙ (λ i. max (before i) (if nat_eq (unsigned_abs (f i)) 0 then unsigned_abs (e i) else 0)))
+more n most next u v a b is before e f = rw add-one (subst (λ z. next ≤ max (own_of n a b) z) part (within most (own_of n a b) next (if nat_eq (unsigned_abs v) 0 then unsigned_abs u else 0) is before))
+  where
+    part : (if nat_eq (unsigned_abs v) 0 then unsigned_abs u else 0) ≡ (if nat_eq (unsigned_abs (b n)) 0 then unsigned_abs (a n) else 0)
+    part = λ i. if nat_eq (unsigned_abs (f i)) 0 then unsigned_abs (e i) else 0
+
+    within : (most all next here : ℕ) → next ≡ max most here → most ≤ all → next ≤ max all here
+    within most all next here is h = omega arith
 
 pub loop-t-init : goal.loop-t-init
-loop-t-init c = record { first = none _ _; second = none _ _ }
+loop-t-init c = record { first = omega arith; second = omega arith }
 
 pub loop-t-preserved : goal.loop-t-preserved
 loop-t-preserved c =

@@ -1,4 +1,4 @@
-use Rattle.std.proofs.Common.{SFits, to_z-of_z, sym, ap, ◌∙◌}
+use Rattle.std.proofs.Common.{◌≡◌, ℕ, ◌≤◌, SFits, to_z-of_z, sym, subst, ◌∙◌, arith}
 use mir.Syntax.{w128}
 use Rattle.set_rules.specs.Columns.{at}
 use Rattle.farkas_check.specs.Two.{own_of}
@@ -12,7 +12,7 @@ pub invariant_of-result-2-clause-within : goal.invariant_of-result-2-clause-with
 invariant_of-result-2-clause-within c =
     let long = c.row-a.ensures.wide ∙ sym c.row-b.ensures.wide in
     own-within c.row-b.result.now c.row-a.result.now c.of-own.result.second c.sum-2.result
-    (c.of-own.ensures.second ∙ ap (λ n. own_of n (at c.row-b.result.now) (at c.row-a.result.now)) long) c.sum-2.ensures.value
+    (subst (λ n. c.of-own.result.second ≤ own_of n (at c.row-b.result.now) (at c.row-a.result.now)) long c.of-own.ensures.second) c.sum-2.ensures.value
 
 pub returns-clause-pair : goal.returns-clause-pair
 returns-clause-pair c =
@@ -25,11 +25,14 @@ returns-clause-pair c =
       first = record {
         right_is = to_z-of_z first ∙ c.rhs.ensures.value;
         sum_is = row_sum-is rows.width rows.rows c.args.r c.row-a.result.now c.sum.result c.row-a.ensures.value c.row-a.ensures.wide c.sum.ensures.value;
-        own_is = c.of-own.ensures.first ∙ (λ i. own_of (c.row-a.ensures.wide i) (at (c.row-a.ensures.value i)) (at (c.row-b.ensures.value i)));
+        own_within = within (λ i. own_of (c.row-a.ensures.wide i) (at (c.row-a.ensures.value i)) (at (c.row-b.ensures.value i))) c.of-own.ensures.first;
       };
       second = record {
         right_is = to_z-of_z second ∙ c.rhs-2.ensures.value;
         sum_is = row_sum-is rows.width rows.rows c.args.s c.row-b.result.now c.sum-2.result c.row-b.ensures.value c.row-b.ensures.wide c.sum-2.ensures.value;
-        own_is = c.of-own.ensures.second ∙ (λ i. own_of (c.row-a.ensures.wide i) (at (c.row-b.ensures.value i)) (at (c.row-a.ensures.value i)));
+        own_within = within (λ i. own_of (c.row-a.ensures.wide i) (at (c.row-b.ensures.value i)) (at (c.row-a.ensures.value i))) c.of-own.ensures.second;
       };
     }
+  where
+    within : {own most known : ℕ} → most ≡ known → own ≤ most → own ≤ known
+    within e h = omega arith

@@ -27,17 +27,12 @@ returns-then-least_left-right c =
     let y = c.args.by.second in
     c.leaves_less.ensures
     ∙ (λ i. int_lt (total (c.row.ensures.wide i) (λ t. magnitude (x *ℤ at (c.row.ensures.value i) t +ℤ y *ℤ at (c.row-then-least_left-right.ensures.value i) t)))
-    ((reach-is (goal.at.returns-then-least_left-right c).After-unsigned_abs-right ∙ right-is c.args.rows.now pair c.requires.pair x y) i))
-    ∙ sym (pair-passes c.args.rows.now.width c.args.rows.now.rows pair.r pair.s x y c.requires.pair.order c.requires.pair.within)
+    ((reach-is (goal.at.returns-then-least_left-right c).After-unsigned_abs-right ∙ right-is c.args.rows.now pair c.requires x y) i))
+    ∙ sym (pair-passes c.args.rows.now.width c.args.rows.now.rows pair.r pair.s x y c.requires.order c.requires.within)
 
 pub returns-else-least_left-right : goal.returns-else-least_left-right
 returns-else-least_left-right c =
     let below : pos c.unsigned_abs-right.result ≤ℤ pos c.least_left.result = let h = c.if-least_left-right.false in omega (arith, ints) in
     not_below c.least_left.result c.unsigned_abs-right.result c.if-least_left-right.false
-    ∙ sym (within-fails c.args.rows.now c.args.self.now c.requires.pair c.args.by.first c.args.by.second
+    ∙ sym (within-fails c.args.rows.now c.args.self.now c.requires c.args.by.first c.args.by.second
     (subst₂ (λ u v. u ≤ℤ v) (reach-is (goal.at.returns-else-least_left-right c).After-unsigned_abs-right) c.least_left.ensures below))
-
-pub returns-then-are_opposed : goal.returns-then-are_opposed
-returns-then-are_opposed c =
-    sym (within-fails c.args.rows.now c.args.self.now c.requires.pair c.args.by.first c.args.by.second
-    (c.requires.opposed c.if-opposed_fail.true c.args.by.first c.args.by.second (c.are_opposed.ensures c.if-are_opposed.true)))
