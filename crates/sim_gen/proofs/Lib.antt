@@ -5,3 +5,4 @@ pub mod Draws
 pub mod Follows
 pub mod Bytes
 pub mod Rows
+pub mod Said

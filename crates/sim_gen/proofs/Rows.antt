@@ -12,7 +12,7 @@ use Rattle.dec_text.proofs.Plain.{reading_of-printed}
 use Rattle.plant_model.specs.Plant.{Sample}
 use Rattle.telem_csv.specs.Columns.{Columns}
 use Rattle.telem_csv.specs.Fields.{is_comma, is_quote}
-use Rattle.telem_csv.specs.Lines.{RawLine, is_feed, is_return, raw_lines, without_return, line_text, fields_in, IsLineText}
+use Rattle.telem_csv.specs.Lines.{RawLine, taken_by, is_feed, is_return, raw_lines, without_return, line_text, fields_in, IsLineText}
 use Rattle.telem_csv.specs.Rows.{Rows, row_sample, row_of, then_rows, rows_from}
 use Rattle.telem_csv.proofs.Cuts.{raw_lines-cut}
 use Rattle.telem_csv.proofs.Ends.{not_marked}
@@ -119,3 +119,36 @@ module _ (m : Moment) (h : IsPrintable m) where
   row =
       let small : nat_le (unsigned_abs m.input) 1_000_000_000_000_000 ≡ true = (let i = h.input in grind (arith, nat_tests)) in
       rw (fields, reading_of-printed m.input (let small = h.input in omega arith), reading_of-printed m.reading h.reading, small) refl
+
+  -- the text of the line, in a file that has room for it
+  line-text : (room n : ℕ) → 44 ≤ room → 2 ≤ n → line_text room n (raw_of m) ≡ Ok (bytes_of m)
+  line-text room n fits later =
+      let l = line-short in
+      let in_room : nat_lt room (length (bytes_of m) + 1) ≡ false = grind (arith, nat_tests) in
+      let in_line : nat_lt 4096 (length (bytes_of m)) ≡ false = grind (arith, nat_tests) in
+      let not_first : (n == 1) ≡ false = grind (arith, nat_tests) in
+      rw (in_room, in_line, not_first, no_return_lost (bytes_of m) line-bytes, none_of is_return no_return (bytes_of m) line-bytes) refl
+
+  line-ends : (rest : List ℕ) → line_of m ++ rest ≡ bytes_of m ++ 10 ∷ rest
+  line-ends rest =
+      append_assoc (printed m.input) (44 ∷ (printed m.reading ++ 10 ∷ [])) rest
+      ∙ ap (λ t. printed m.input ++ 44 ∷ t) (append_assoc (printed m.reading) (10 ∷ []) rest)
+      ∙ sym (append_assoc (printed m.input) (44 ∷ printed m.reading) (10 ∷ rest))
+
+  raw-line : (rest : List ℕ) → raw_lines (line_of m ++ rest) ≡ raw_of m ∷ raw_lines rest
+  raw-line rest = ap raw_lines (line-ends rest) ∙ raw_lines-cut (bytes_of m) rest (none_of is_feed no_feed (bytes_of m) line-bytes)
+
+  answer : (room n : ℕ) → 44 ≤ room → 2 ≤ n → (line_text room n (raw_of m) >>= row_of columns) ≡ Ok (Some (sample_of m))
+  answer room n fits later = ap (λ t. t >>= row_of columns) (line-text room n fits later) ∙ row
+
+-- the lines of samples are read as their rows, in a file that has room for them
+pub rows-read : (ms : List Moment) → All IsPrintable ms → (room n : ℕ) → 44 * length ms ≤ room → 2 ≤ n
+    → rows_from columns room n (raw_lines (flat_map line_of ms)) ≡ record { samples = map sample_of ms; refusal = None }
+rows-read [] h room n fits later = refl
+rows-read (m ∷ ms) h room n fits later =
+    let here = All-head IsPrintable m ms h in
+    let short = line-short m here in
+    let left = room - taken_by (raw_of m) in
+    ap (rows_from columns room n) (raw-line m here (flat_map line_of ms))
+    ∙ ap (λ a. then_rows n a (rows_from columns left (n + 1) (raw_lines (flat_map line_of ms)))) (answer m here room n (omega arith) later)
+    ∙ ap (then_rows n (Ok (Some (sample_of m)))) (rows-read ms (All-tail IsPrintable m ms h) left (n + 1) (omega arith) (omega arith))
