@@ -4,6 +4,7 @@ ghost use Rattle.std.specs.Prelude.{◌≡◌, ℕ, ◌≤◌, ◌<◌, ◌++◌
 ghost use Rattle.set_rules.specs.Columns.{at};
 ghost use Rattle.plant_model.specs.Plant.{states_at, disturbances_at, Obeys};
 ghost use Rattle.sim_gen.specs.Telemetry.{line_of, telemetry_text, trajectory, samples_of};
+ghost use Rattle.sim_gen.specs.Said.{said_by, just};
 ghost use Rattle.sim_gen.specs.Process.{begun};
 ghost use Rattle.sim_gen.specs.Models.{plant_of};
 
@@ -78,6 +79,7 @@ pub fn make(alloc: Global, seed: u32, samples: u32) -> Result<Made, AllocError>
     requires some { 1 ≤ samples }
     requires few { samples ≤ 10_000 }
     ensures telemetry { IfOk result (λ made. made.telemetry ≡ telemetry_text seed samples) }
+    ensures reads { IfOk result (λ made. said_by made.telemetry ≡ just (samples_of seed samples)) }
     ensures trajectory { IfOk result (λ made. made.trajectory ≡ trajectory seed samples) }
     ensures obeys { IfOk result (λ made. (k : ℕ) → k < samples → Obeys (plant_of (begun seed)) (samples_of seed samples) k made.trajectory) }
 {

@@ -1,9 +1,11 @@
 use Rattle.std.proofs.Common.{◌≡◌, ℕ, ◌<◌, arith, ◌∙◌, sym, ap, subst}
 use Rattle.sim_gen.specs.Telemetry.{telemetry_text, trajectory, trajectory_of, samples_of}
 use Rattle.sim_gen.specs.Process.{begun}
+use Rattle.sim_gen.specs.Said.{said_by}
 use Rattle.sim_gen.specs.Models.{plant_of}
 use Rattle.plant_model.specs.Plant.{Trajectory, Obeys}
 use Rattle.sim_gen.proofs.Follows.{obeys}
+use Rattle.sim_gen.proofs.Said.{said}
 use Rattle.sim_gen.proofs.Grows.{process-none, process-goes, moments-grow, text-grows}
 use Rattle.sim_gen.proofs.made.make.Goals as goal
 
@@ -28,6 +30,9 @@ pub returns-clause-telemetry : goal.returns-clause-telemetry
 returns-clause-telemetry c =
     let end : c.loop-k.k ≡ c.args.samples = omega arith in
     c.loop-k.invariant.telemetry ∙ ap (telemetry_text c.args.seed) end
+
+pub returns-clause-reads : goal.returns-clause-reads
+returns-clause-reads c = ap said_by (returns-clause-telemetry c) ∙ said c.args.seed c.args.samples c.requires.few
 
 pub returns-clause-trajectory : goal.returns-clause-trajectory
 returns-clause-trajectory c =
