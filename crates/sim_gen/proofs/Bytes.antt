@@ -1,5 +1,5 @@
 -- The bytes of a printed number: each is one that a number has, and they are few.
-use Rattle.std.proofs.Common.{◌≡◌, ℕ, suc, ◌+◌, ◌/◌, ◌%◌, ◌^◌, ◌<◌, ◌≤◌, true, All, List, [], ◌∷◌, ◌++◌, length, ℤ, pos, negsuc, decimal, unsigned_abs, arith, length-append}
+use Rattle.std.proofs.Common.{◌≡◌, ℕ, suc, ◌/◌, ◌%◌, ◌^◌, ◌<◌, ◌≤◌, true, All, List, [], ◌∷◌, ◌++◌, length, ℤ, pos, negsuc, decimal, unsigned_abs, arith, length-append}
 use Rattle.std.specs.Char.{is_ascii_digit}
 use Rattle.std.specs.List.{list_all}
 use Rattle.std.proofs.lemmas.Bool.Decides.{nat_tests}
@@ -40,7 +40,7 @@ body-is m h =
     let places : length f ≡ 9 = length-places 9 (m % 1_000_000_000) in
     record {
       bytes = All-append IsNumberByte w (46 ∷ f) (digits-are w (whole_writes (m / 1_000_000_000) few).digits)
-      (All-cons IsNumberByte 46 f (omega arith, omega arith) (digits-are f (places_write 9 (m % 1_000_000_000) (omega arith)).digits));
+          (All-cons IsNumberByte 46 f (omega arith, omega arith) (digits-are f (places_write 9 (m % 1_000_000_000) (omega arith)).digits));
       some = omega arith;
       short = omega arith;
     }

@@ -1,6 +1,6 @@
 -- The reader of telemetries reads the line of a sample as its row.
-use Rattle.std.proofs.Common.{◌≡◌, ℕ, suc, ◌+◌, ◌-◌, ◌*◌, ◌<◌, ◌≤◌, Bool, true, false, All, List, [], ◌∷◌, ◌++◌, length, get_or, map, pos, unsigned_abs, refl, sym, ◌∙◌, ap, arith, append_assoc, length-append, Option, Some, None, Ok}
-use Rattle.std.specs.Prelude.{◌==◌, nat_lt, nat_le, ◌||◌}
+use Rattle.std.proofs.Common.{◌≡◌, ℕ, suc, ◌+◌, ◌-◌, ◌*◌, ◌≤◌, Bool, true, false, All, List, [], ◌∷◌, ◌++◌, length, get_or, map, unsigned_abs, refl, sym, ◌∙◌, ap, arith, append_assoc, length-append, Some, None, Ok}
+use Rattle.std.specs.Prelude.{◌==◌, nat_lt, nat_le}
 use Rattle.std.specs.List.{list_any, slice_split, flat_map}
 use Rattle.std.proofs.lemmas.Bool.Decides.{nat_tests}
 use Rattle.std.proofs.lemmas.List.Elements.{All-nil, All-cons, All-head, All-tail, All-append}
@@ -9,11 +9,10 @@ use Rattle.std.proofs.lemmas.List.Splits.{slice_split_at, slice_split_none}
 use Rattle.dec_text.specs.Printed.{printed}
 use Rattle.dec_text.specs.Steps.{◌>>=◌}
 use Rattle.dec_text.proofs.Plain.{reading_of-printed}
-use Rattle.plant_model.specs.Plant.{Sample}
 use Rattle.telem_csv.specs.Columns.{Columns}
 use Rattle.telem_csv.specs.Fields.{is_comma, is_quote}
 use Rattle.telem_csv.specs.Lines.{RawLine, taken_by, is_feed, is_return, raw_lines, without_return, line_text, fields_in, IsLineText}
-use Rattle.telem_csv.specs.Rows.{Rows, row_sample, row_of, then_rows, rows_from}
+use Rattle.telem_csv.specs.Rows.{row_of, then_rows, rows_from}
 use Rattle.telem_csv.proofs.Cuts.{raw_lines-cut}
 use Rattle.telem_csv.proofs.Ends.{not_marked}
 use Rattle.telem_csv.proofs.Plain.{fields_plain}

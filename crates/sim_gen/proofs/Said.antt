@@ -1,5 +1,5 @@
 -- The reader of telemetries reads the telemetry of a seed as its samples.
-use Rattle.std.proofs.Common.{◌≡◌, ℕ, ◌+◌, ◌-◌, ◌*◌, ◌≤◌, true, false, All, List, [], ◌∷◌, ◌++◌, length, get_or, map, codes, refl, sym, ◌∙◌, ap, arith, Some, None, Ok}
+use Rattle.std.proofs.Common.{◌≡◌, ℕ, ◌+◌, ◌-◌, ◌*◌, ◌≤◌, true, false, All, List, [], ◌∷◌, ◌++◌, length, get_or, map, codes, refl, sym, ◌∙◌, ap, arith, Some, Ok}
 use Rattle.std.specs.Prelude.{nat_lt}
 use Rattle.std.specs.List.{flat_map, range_with_len}
 use Rattle.std.proofs.lemmas.Bool.Decides.{nat_tests}
@@ -7,8 +7,7 @@ use Rattle.std.proofs.lemmas.Int.{ints}
 use Rattle.std.proofs.lemmas.List.Elements.{All-map}
 use Rattle.std.proofs.lemmas.List.FromFn.{length-map-range_with_len}
 use Rattle.dec_text.specs.Steps.{◌>>=◌}
-use Rattle.telem_csv.specs.Columns.{Columns}
-use Rattle.telem_csv.specs.Lines.{RawLine, raw_lines, line_text, fields_in}
+use Rattle.telem_csv.specs.Lines.{raw_lines, line_text, fields_in}
 use Rattle.telem_csv.specs.Rows.{rows_from}
 use Rattle.telem_csv.specs.Telemetry.{telemetry, has_header, header_of, then_header, from_line}
 use Rattle.telem_csv.proofs.Ends.{not_marked}
