@@ -1,0 +1,3 @@
+pub mod Told
+pub mod Sums
+pub mod Text
