@@ -3,3 +3,4 @@ pub mod Process
 pub mod Telemetry
 pub mod Models
 pub mod Said
+pub mod Document

@@ -9,7 +9,7 @@ use Rattle.refusal_text.specs.Telemetry.{telemetry_refusal}
 use Rattle.refusal_text.specs.Report.{report_refusal}
 use Rattle.input_files.specs.Files.{most_telemetry}
 use Rattle.zonomon_run.specs.declared.ending.Ending.{Ending}
-use Rattle.zonomon_run.specs.declared.ending.Ending.TheVariants.{Usage, Model, Telemetry, ReadModel, ReadTelemetry, ReadReport, Write, Memory, Report, NotBuilt}
+use Rattle.zonomon_run.specs.declared.ending.Ending.TheVariants.{Usage, Model, Telemetry, ReadModel, ReadTelemetry, ReadReport, Write, Memory, Report}
 
 abbrev pub status_of : Ending → ℕ
 status_of Usage = 1
@@ -21,7 +21,6 @@ status_of ReadReport = 4
 status_of Write = 5
 status_of Memory = 6
 status_of (Report line) = 7
-status_of NotBuilt = 8
 
 -- a text with its line feed
 abbrev pub ended : List ℕ → List ℕ
@@ -57,7 +56,6 @@ text_of ReadReport = ended (codes "read fault: report")
 text_of Write = ended (codes "write fault")
 text_of Memory = ended (codes "out of memory")
 text_of (Report line) = report_refusal_text line
-text_of NotBuilt = ended (codes "not built")
 
 -- a sink got the text, or where it had a fault or wanted memory, a front of it
 pub record Tells (text : List ℕ) (before after : SinkState) : Type 0 where

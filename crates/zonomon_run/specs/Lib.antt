@@ -3,4 +3,5 @@ pub mod Command
 pub mod Ending
 pub mod Endings
 pub mod Runs
+pub mod Demo
 pub mod Checks

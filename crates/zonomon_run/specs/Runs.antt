@@ -14,7 +14,7 @@ use Rattle.input_files.specs.Whole.{IsAskedAtMost, TakesAtMost, most_model, most
 use Rattle.monitor_run.specs.InTime.{IsBegun, GainsLinesAtLeast}
 use Rattle.monitor_run.specs.Outcome.{GainsLines, GainsLinesFront}
 use Rattle.monitor_run.specs.Reports.{IsReportOf, IsReportOfRows}
-use Rattle.zonomon_run.specs.Words.{asked_by, monitor, checks, helps, later, faulty}
+use Rattle.zonomon_run.specs.Words.{asked_by, monitor, checks, demonstrates}
 use Rattle.zonomon_run.specs.Ending.{Tells, text_of, usage_lines, model_refusal_text, telemetry_refusal_text}
 use Rattle.zonomon_run.specs.declared.ending.Ending.TheVariants.{ReadModel, ReadTelemetry}
 
@@ -40,9 +40,13 @@ OnCheck words claim = (model telemetry report : List ℕ) → asked_by words ≡
 abbrev pub NamesNoReport : List (List ℕ) → Type 0
 NamesNoReport words = OnCheck words (λ model telemetry report. ⊥)
 
+-- a claim on the numbers that the words `demo` give
+abbrev pub OnDemo : List (List ℕ) → (ℕ → ℕ → Type 0) → Type 0
+OnDemo words claim = (seed samples : ℕ) → asked_by words ≡ demonstrates seed samples → claim seed samples
+
 -- the words name no file
 abbrev pub NamesNoFile : List (List ℕ) → Type 0
-NamesNoFile words = (asked_by words ≡ helps) ⊎ ((asked_by words ≡ faulty) ⊎ (asked_by words ≡ later))
+NamesNoFile words = OnRun words (λ model telemetry. ⊥) × NamesNoReport words
 
 -- a claim on what the files say that the words `run` name, where the shelf tells them
 abbrev pub OnNamed : List (List ℕ) → ShelfState → (Files → Type 0) → Type 0
@@ -94,7 +98,7 @@ IsRunStatus n = (n ≡ 0) ⊎ ((n ≡ 2) ⊎ ((n ≡ 3) ⊎ ((n ≡ 4) ⊎ ((n �
 
 -- all statuses
 abbrev pub IsStatus : ℕ → Type 0
-IsStatus n = IsRunStatus n ⊎ ((n ≡ 1) ⊎ ((n ≡ 7) ⊎ (n ≡ 8)))
+IsStatus n = IsRunStatus n ⊎ ((n ≡ 1) ⊎ (n ≡ 7))
 
 -- the statuses where one known text is put
 abbrev pub IsPutStatus : ℕ → Type 0

@@ -11,7 +11,7 @@ pub data Asked : Type 0 where
   monitor : List ℕ → List ℕ → Asked
   checks : List ℕ → List ℕ → List ℕ → Asked
   helps : Asked
-  later : Asked
+  demonstrates : (seed samples : ℕ) → Asked
   faulty : Asked
 
 -- so many decimal digits at most, of a number between these
@@ -25,9 +25,12 @@ is_seed text = is_number 10 0 4_294_967_295 text
 abbrev pub is_sample_count : List ℕ → Bool
 is_sample_count text = is_number 5 1 10_000 text
 
+-- the demonstration of a seed and of so many samples
+abbrev pub demonstration : List ℕ → List ℕ → Asked
+demonstration seed samples = if is_seed seed && is_sample_count samples then demonstrates (number seed) (number samples) else faulty
+
 abbrev pub two_words : List ℕ → List ℕ → List ℕ → Asked
-two_words verb a b = if bytes_eq verb (codes "run") then monitor a b
-    else (if bytes_eq verb (codes "demo") && (is_seed a && is_sample_count b) then later else faulty)
+two_words verb a b = if bytes_eq verb (codes "run") then monitor a b else (if bytes_eq verb (codes "demo") then demonstration a b else faulty)
 
 abbrev pub one_word : List ℕ → Asked
 one_word verb = if bytes_eq verb (codes "help") then helps else faulty
@@ -35,7 +38,7 @@ one_word verb = if bytes_eq verb (codes "help") then helps else faulty
 abbrev pub three_names : List ℕ → List ℕ → List ℕ → List ℕ → Asked
 three_names verb a b c = if bytes_eq verb (codes "check") then checks a b c else faulty
 
--- `run MODEL TELEMETRY`, `check MODEL TELEMETRY REPORT` and `help` are served; `demo SEED SAMPLES` is not yet
+-- `run MODEL TELEMETRY`, `check MODEL TELEMETRY REPORT`, `demo SEED SAMPLES` or `help`
 abbrev pub asked_by : List (List ℕ) → Asked
 asked_by (verb ∷ []) = one_word verb
 asked_by (verb ∷ a ∷ b ∷ []) = two_words verb a b

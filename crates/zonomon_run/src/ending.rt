@@ -41,8 +41,6 @@ pub enum Ending {
     Memory,
     /// The report is refused at this line, from 1.
     Report(u64),
-    /// What is asked for is not built yet.
-    NotBuilt,
 }
 
 /// How the program ends where a run ended early.
@@ -104,7 +102,6 @@ fn put_ending<E: Sink>(err: &mut E, ending: &Ending) -> Result<(), PutFault>
         Ending::ReadReport => put_all(err, b"read fault: report\n"),
         Ending::Write => put_all(err, b"write fault\n"),
         Ending::Memory => put_all(err, b"out of memory\n"),
-        Ending::NotBuilt => put_all(err, b"not built\n"),
     }
 }
 
@@ -148,6 +145,5 @@ fn status(ending: &Ending) -> u8
         Ending::Write => 5,
         Ending::Memory => 6,
         Ending::Report(_) => 7,
-        Ending::NotBuilt => 8,
     }
 }

@@ -1,6 +1,8 @@
 //! The whole program, over a shelf and two sinks that are handed in.
 #![tactic(auto)]
 
+mod asked;
+mod demo;
 mod ending;
 mod files;
 mod running;

@@ -1,10 +1,12 @@
 //! What the words of the command line ask for.
-ghost use Rattle.std.specs.Prelude.{◌≡◌, ℕ, ◌≤◌, true, length, nat_le, ◌&&◌};
+ghost use Rattle.std.specs.Prelude.{◌≡◌, ℕ, ◌≤◌, true, length, nat_le, ◌&&◌, Some, None, IfSome, if◌then◌else◌};
 ghost use Rattle.std.specs.List.{list_all};
 ghost use Rattle.std.specs.Char.{is_ascii_digit};
 ghost use Rattle.dec_text.specs.Decimal.{number};
-ghost use Rattle.zonomon_run.specs.Words.{asked_by, texts, one_word, two_words, three_names, is_number, is_seed, is_sample_count};
+ghost use Rattle.zonomon_run.specs.Words.{asked_by, texts, one_word, two_words, three_names, demonstration, is_number};
 ghost use Rattle.zonomon_run.specs.Command.{seen};
+
+use crate::asked::Demo;
 
 /// What the words ask for.
 #[derive(Clone, Copy)]
@@ -13,10 +15,10 @@ pub enum Command<'a> {
     Monitor(&'a str, &'a str),
     /// `check MODEL TELEMETRY REPORT`
     Check(&'a str, &'a str, &'a str),
+    /// `demo SEED SAMPLES`
+    Demonstrate(Demo),
     /// `help`
     Help,
-    /// A form that is not served yet.
-    Later,
     /// No form.
     Faulty,
 }
@@ -64,35 +66,41 @@ fn two_words<'a>(verb: &str, first: &'a str, second: &'a str) -> Command<'a>
     if verb == "run" {
         return Command::Monitor(first, second);
     }
-    if verb == "demo" && is_seed(first.as_bytes()) && is_sample_count(second.as_bytes()) {
-        Command::Later
-    } else {
-        Command::Faulty
+    if verb == "demo" {
+        return demonstration(first.as_bytes(), second.as_bytes());
+    }
+    Command::Faulty
+}
+
+/// The demonstration of these numbers, if they are within their limits.
+fn demonstration(seed: &[u8], samples: &[u8]) -> Command<'static>
+    ensures { seen result ≡ demonstration seed.now samples.now }
+{
+    match number_in(10, 0, 4_294_967_295, seed) {
+        None => Command::Faulty,
+        Some(seed) => match number_in(5, 1, 10_000, samples) {
+            None => Command::Faulty,
+            Some(samples) => Command::Demonstrate(Demo { seed, samples }),
+        },
     }
 }
 
-fn is_seed(text: &[u8]) -> bool
-    ensures { result ≡ is_seed text.now }
-{
-    is_number(10, 0, 4_294_967_295, text)
-}
-
-fn is_sample_count(text: &[u8]) -> bool
-    ensures { result ≡ is_sample_count text.now }
-{
-    is_number(5, 1, 10_000, text)
-}
-
-/// Whether a text is a number between these, in at most so many digits.
-fn is_number(most: usize, low: u64, high: u64, text: &[u8]) -> bool
+/// The number between these that a text writes in at most so many digits.
+fn number_in(most: usize, low: u32, high: u32, text: &[u8]) -> Option<u32>
     requires { most ≤ 10 }
-    ensures { result ≡ is_number most low high text.now }
+    ensures value { result ≡ (if is_number most low high text.now then Some (number text.now) else None) }
+    ensures low { IfSome result (λ n. low ≤ n) }
+    ensures high { IfSome result (λ n. n ≤ high) }
 {
     if text.is_empty() || text.len() > most || !are_digits(text) {
-        return false;
+        return None;
     }
     let number = number_of(text);
-    low <= number && number <= high
+    if u64::from(low) <= number && number <= u64::from(high) {
+        Some(number as u32)
+    } else {
+        None
+    }
 }
 
 fn are_digits(text: &[u8]) -> bool

@@ -11,6 +11,8 @@ mod constrained;
 #[cfg(test)]
 mod decimals;
 #[cfg(test)]
+mod demonstrations;
+#[cfg(test)]
 mod edge;
 #[cfg(test)]
 mod estimates;

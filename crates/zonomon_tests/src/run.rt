@@ -1,4 +1,5 @@
 mod checks;
+mod demo;
 mod faults;
 pub mod inputs;
 mod kept_rows;

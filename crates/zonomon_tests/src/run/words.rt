@@ -9,7 +9,7 @@ const USAGE: &str = "usage: zonomon run MODEL TELEMETRY
        zonomon help
 ";
 
-/// Words, and what is said where every file is empty: of no form, of one to come, and of the help.
+/// Words, and what is said where every file is empty: of no form, of a demonstration, and of the help.
 const WORDS: [(&[&str], (u8, &str, &str)); 14] = [
     (&[], (1, "", USAGE)),
     (&["run"], (1, "", USAGE)),
@@ -23,7 +23,14 @@ const WORDS: [(&[&str], (u8, &str, &str)); 14] = [
     (&["demo", "7", "0"], (1, "", USAGE)),
     (&["demo", "4294967296", "1"], (1, "", USAGE)),
     (&["demo", "7", "10001"], (1, "", USAGE)),
-    (&["demo", "7", "1"], (8, "", "not built\n")),
+    (
+        &["demo", "007", "1"],
+        (
+            0,
+            "demo 7 1\ntrue possible\nother possible\nundecided 0\n",
+            "",
+        ),
+    ),
     (&["help"], (0, USAGE, "")),
 ];
 

@@ -1,6 +1,8 @@
 use Rattle.std.proofs.Common.{inl}
 use Rattle.zonomon_run.specs.Words.{texts}
 use Rattle.zonomon_run.specs.Runs.{outside, TrueHulls, TrueExclusions, TrueMisses}
+use Rattle.zonomon_run.specs.Demo.{TrueStays}
+use Rattle.zonomon_run.proofs.Demos.{on-demo, true-stays}
 use Rattle.zonomon_run.specs.Checks.{CheckedHulls, CheckedExclusions, CheckedMisses}
 use Rattle.zonomon_run.proofs.Checks.{on-check, if-accepted, own-kept, checked-hulls, checked-exclusions, checked-misses}
 use Rattle.zonomon_run.proofs.Runs.{on-run, on-files, true-hulls, true-exclusions, true-misses}
@@ -58,3 +60,8 @@ returns-in-Check-clause-own_report g c =
     let after = outside (g.F.Shelf.state c.check_files.new.shelf) (g.O.Sink.state c.check_files.new.out) (g.E.Sink.state c.check_files.new.err) in
     on-check (texts c.args.words.now) _ c.in-Check.model.now c.in-Check.telemetry.now c.in-Check.report.now c.in-Check.ensures
     (own-kept c.in-Check.model.now c.in-Check.telemetry.now c.in-Check.report.now before c.check_files.result after c.check_files.ensures.checks)
+
+pub returns-in-Demonstrate-clause-true_model : goal.returns-in-Demonstrate-clause-true_model
+returns-in-Demonstrate-clause-true_model g c =
+    let demo = c.in-Demonstrate.demo in
+    on-demo (texts c.args.words.now) TrueStays demo.seed demo.samples c.in-Demonstrate.ensures (λ lines is. true-stays demo.seed demo.samples demo.some demo.few lines is)
