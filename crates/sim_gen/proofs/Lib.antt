@@ -3,3 +3,4 @@ pub mod Keeps
 pub mod Grows
 pub mod Draws
 pub mod Follows
+pub mod Parses

@@ -2,3 +2,4 @@ pub mod Generator
 pub mod Process
 pub mod Telemetry
 pub mod Models
+pub mod Document
