@@ -4,3 +4,4 @@ pub mod Grows
 pub mod Draws
 pub mod Follows
 pub mod Parses
+pub mod Prints

@@ -1,5 +1,5 @@
 -- The text of the document is read as its table, and the table says the models.
-use Rattle.std.proofs.Common.{◌≡◌, ℕ, zero, suc, ◌≤◌, List, Option, Some, Ok, refl, arith}
+use Rattle.std.proofs.Common.{◌≡◌, ℕ, zero, suc, ◌≤◌, Some, Ok, refl, arith}
 use Rattle.toml.specs.Data.{table}
 use Rattle.toml.specs.Parse.{parse_document}
 use Rattle.toml.proofs.OnLiterals.{toml_on_literals}
@@ -8,7 +8,7 @@ use Rattle.model_file.specs.ModelFile.{models_in, version_of, tables_of}
 use Rattle.model_file.specs.Models.{count_of, matrices_of, bounds_of, plant_in, model_of}
 use Rattle.model_file.specs.Names.{inputs_of, outputs_of, name_of}
 use Rattle.model_file.specs.Numbers.{vector, matrix, matrix_unless_empty}
-use Rattle.sim_gen.specs.Document.{document, members_with}
+use Rattle.sim_gen.specs.Document.{document_text, members_with}
 use Rattle.sim_gen.specs.Models.{models_with}
 
 -- what holds at each coupling and each gain
@@ -29,10 +29,10 @@ at-each P a b c d e f g h (suc (suc zero)) (suc (suc (suc (suc zero)))) some_n f
 at-each P a b c d e f g h (suc (suc zero)) (suc (suc (suc (suc (suc n))))) some_n few_n some few = absurd (omega arith)
 at-each P a b c d e f g h (suc (suc (suc m))) n some_n few_n some few = absurd (omega arith)
 
-pub document-parses : (coupling gain : ℕ) → 1 ≤ coupling → coupling ≤ 2 → 1 ≤ gain → gain ≤ 4
-    → parse_document (document coupling gain) ≡ Some (members_with coupling gain)
+pub text-parses : (coupling gain : ℕ) → 1 ≤ coupling → coupling ≤ 2 → 1 ≤ gain → gain ≤ 4
+    → parse_document (document_text coupling gain) ≡ Some (members_with coupling gain)
 unfolding toml_on_literals
-document-parses = at-each (λ m n. parse_document (document m n) ≡ Some (members_with m n)) refl refl refl refl refl refl refl refl
+text-parses = at-each (λ m n. parse_document (document_text m n) ≡ Some (members_with m n)) refl refl refl refl refl refl refl refl
 
 pub table-says : (coupling gain : ℕ) → 1 ≤ coupling → coupling ≤ 2 → 1 ≤ gain → gain ≤ 4
     → models_in (table (members_with coupling gain)) ≡ Ok (models_with coupling gain)

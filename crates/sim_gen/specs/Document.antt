@@ -1,5 +1,5 @@
 -- The document of the demonstration's model file: the text that is read, and the table that it is.
-use Rattle.std.specs.Prelude.{ℕ, ◌+◌, List, [], ◌∷◌, ◌++◌, codes, map, pos}
+use Rattle.std.specs.Prelude.{ℕ, ◌+◌, List, [], ◌∷◌, ◌++◌, codes, pos}
 use Rattle.toml.specs.Data.{Data, string, integer, array, table, Members, no_members, member}
 use Rattle.toml.specs.View.{items_of}
 
@@ -20,12 +20,12 @@ rest_text =
 -- a model's table
 abbrev pub model_text : List ℕ → ℕ → ℕ → List ℕ
 model_text name coupling gain =
-    codes "\n[[model]]\nname = \"" ++ (name ++ (codes "\"\nstates = 2\ndisturbances = 3\nA = [[\"0.5\", " ++ (digit_text coupling
-    ++ (codes "], [0, \"0.5\"]]\nB = [[0], [" ++ (digit_text gain ++ rest_text)))))
+    codes "\n[[model]]\nname = \"" ++ name ++ codes "\"\nstates = 2\ndisturbances = 3\nA = [[\"0.5\", " ++ digit_text coupling
+    ++ codes "], [0, \"0.5\"]]\nB = [[0], [" ++ digit_text gain ++ rest_text
 
 -- the whole text, of the true model and of the other
-abbrev pub document : ℕ → ℕ → List ℕ
-document coupling gain = head_text ++ (model_text (codes "true") coupling gain ++ model_text (codes "other") coupling (gain + 1))
+abbrev pub document_text : ℕ → ℕ → List ℕ
+document_text coupling gain = head_text ++ model_text (codes "true") coupling gain ++ model_text (codes "other") coupling (gain + 1)
 
 -- an array of these values
 abbrev pub row : List Data → Data

@@ -1,11 +1,12 @@
 //! The demonstration as bytes, with the trajectory behind it.
 
-ghost use Rattle.std.specs.Prelude.{◌≡◌, ℕ, ◌≤◌, ◌<◌, ◌++◌, ◌^◌, length, unsigned_abs, IfOk, is_ok, if◌then◌else◌};
+ghost use Rattle.std.specs.Prelude.{◌≡◌, ℕ, ◌≤◌, ◌<◌, ◌++◌, ◌^◌, length, unsigned_abs, IfOk, Ok, is_ok, if◌then◌else◌};
 ghost use Rattle.set_rules.specs.Columns.{at};
 ghost use Rattle.plant_model.specs.Plant.{states_at, disturbances_at, Obeys};
 ghost use Rattle.sim_gen.specs.Telemetry.{line_of, telemetry_text, trajectory, samples_of};
 ghost use Rattle.sim_gen.specs.Process.{begun};
-ghost use Rattle.sim_gen.specs.Models.{plant_of};
+ghost use Rattle.sim_gen.specs.Models.{plant_of, models_with};
+ghost use Rattle.model_file.specs.ModelFile.{models_of};
 
 use crate::document::model_file;
 use crate::process::{Moment, Process};
@@ -77,6 +78,7 @@ impl Made {
 pub fn make(alloc: Global, seed: u32, samples: u32) -> Result<Made, AllocError>
     requires some { 1 ≤ samples }
     requires few { samples ≤ 10_000 }
+    ensures model { IfOk result (λ made. models_of made.model ≡ Ok (models_with (begun seed).coupling (begun seed).gain)) }
     ensures telemetry { IfOk result (λ made. made.telemetry ≡ telemetry_text seed samples) }
     ensures trajectory { IfOk result (λ made. made.trajectory ≡ trajectory seed samples) }
     ensures obeys { IfOk result (λ made. (k : ℕ) → k < samples → Obeys (plant_of (begun seed)) (samples_of seed samples) k made.trajectory) }
