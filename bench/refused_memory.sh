@@ -120,5 +120,6 @@ for files in "wheel.toml wheel.csv" "$room/bank.toml $room/bank.csv"; do
   refuse_each run "$1" "$2"
   refuse_each check "$1" "$2" "$room/report"
 done
+refuse_each demo 7 100
 refuse_each help
 exit "$failed"

@@ -6,5 +6,5 @@ pub mod Follows
 pub mod Bytes
 pub mod Rows
 pub mod Said
-pub mod Parsed
-pub mod Pushed
+pub mod Parses
+pub mod Prints

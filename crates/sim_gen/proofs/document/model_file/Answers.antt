@@ -1,14 +1,15 @@
-use Rattle.std.proofs.Common.{◌+◌, ◌++◌, codes, string_bytes, ap, ◌∙◌}
-use Rattle.std.proofs.lemmas.Str.{IsUtf8-string_bytes, is_utf8-from_IsUtf8}
-use Rattle.sim_gen.specs.Document.{model_text}
-use Rattle.sim_gen.proofs.Parsed.{says}
+use Rattle.std.proofs.Common.{Some, false, string_bytes, subst, ap, ◌∙◌, arith}
+use Rattle.std.proofs.lemmas.Str.{IsUtf8-string_bytes}
+use Rattle.toml.specs.Data.{Members}
+use Rattle.toml.specs.Text.{IsDocumentText}
+use Rattle.sim_gen.proofs.Prints.{printed-says}
 use Rattle.sim_gen.proofs.document.model_file.Goals as goal
 
-pub returns-clause-says : goal.returns-clause-says
-returns-clause-says c =
-    let file = string_bytes c.push_model-2.new.text in
-    let first = model_text (codes "true") c.args.coupling c.args.gain in
-    let second = model_text (codes "other") c.args.coupling (c.args.gain + 1) in
-    let is = c.in_ok-push_model-2.ensures ∙ ap (λ l. l ++ second) (c.in_ok-push_model.ensures ∙ ap (λ l. l ++ first) c.in_ok-text.ensures.ok) in
-    says file c.args.coupling c.args.gain is (is_utf8-from_IsUtf8 file (IsUtf8-string_bytes c.push_model-2.new.text))
-    c.requires.some_coupling c.requires.coupling c.requires.some_gain c.requires.gain
+pub returns-in-Ok : goal.returns-in-Ok
+returns-in-Ok c =
+    let file = string_bytes c.in-Ok.file in
+    let table = c.in_ok-table.ensures in
+    let r = c.requires in
+    let printed = subst (λ (ms : Members). IsDocumentText false ms file) table c.in-Ok.ensures.text in
+    let parsed = c.in-Ok.ensures.reads_back (rw table (omega arith)) ∙ ap (λ ms. Some ms) table in
+    printed-says c.args.coupling c.args.gain file r.some_coupling r.small_coupling r.some_gain r.small_gain (IsUtf8-string_bytes c.in-Ok.file) printed parsed
